@@ -1,0 +1,119 @@
+-- Laws of lists made by rising index, and of tests of every index.
+use mathlib.Core.Bool.{Bool, _&&_, false, true}
+use mathlib.Core.List.{List, [], _++_, _∷_, append-nil}
+use mathlib.Core.Logic.{⊎-elim}
+use mathlib.Core.Path.{_∙_, _≡_, ap, refl, subst, sym}
+use Prim.Native.Nat.{_+_, _<_, _≤_, suc, zero, ℕ}
+use native.Mathlib.Decide.{decLt, le-ind}
+use native.Mathlib.Nat.{add-suc, add-zero, eq-or-lt-of-le, le-of-suc-le-suc, not-suc-le-zero, suc-add}
+use native.Mathlib.Numerals.{add-one}
+use native.Mathlib.Omega.{arith}
+use lib.ListN.{List·getD-append, drop, drop-of-length-le, getD, length, length-append, set}
+use lib.Seq.{append-snoc, drop-cons, getD-at, set-at}
+use Rattle.circuit.proofs.BoolLaws.{and-left, and-right}
+use Rattle.circuit.specs.Lists.{at, build, every, indexed, table}
+
+-- one turn of a loop that tests by rising index
+pub every-more : (f : ℕ → Bool) (n : ℕ) → every f n ≡ true → f n ≡ true → every f (n + 1) ≡ true
+unfolding every
+every-more f n e h = rw (add-one, e, h)
+
+-- what passes for every number below n passes at each
+pub every-at : (f : ℕ → Bool) (n : ℕ) → every f n ≡ true → (i : ℕ) → i < n → f i ≡ true
+unfolding every
+every-at f zero e i h = absurd (not-suc-le-zero h)
+every-at f (suc n) e i h =
+    ⊎-elim (λ q. subst (λ (k : ℕ). f k ≡ true) (sym q) (and-right (every f n) (f n) e))
+    (λ l. every-at f n (and-left (every f n) (f n) e) i l)
+    (eq-or-lt-of-le (le-of-suc-le-suc h))
+
+pub every-by : (f : ℕ → Bool) (n : ℕ) → ((i : ℕ) → i < n → f i ≡ true) → every f n ≡ true
+unfolding every
+every-by f zero h = refl
+every-by f (suc n) h = rw (every-by f n (λ i l. h i (omega arith)), h n (omega arith))
+
+-- one number that fails is enough
+pub every-fails : (f : ℕ → Bool) (n i : ℕ) → i < n → f i ≡ false → every f n ≡ false
+every-fails f n i h e = go (every f n) refl
+  where
+    go : (b : Bool) → every f n ≡ b → b ≡ false
+    go true q = sym (every-at f n q i h) ∙ e
+    go false q = refl
+
+pub length-build : (f : List ℕ → ℕ → ℕ) (n : ℕ) → length (build f n) ≡ n
+unfolding build
+length-build f zero = refl
+length-build f (suc n) = length-append (build f n) (f (build f n) n ∷ []) ∙ omega (arith, length-build f n)
+
+-- the element at i is made from those before it
+pub getD-build : (f : List ℕ → ℕ → ℕ) (d : ℕ) {i : ℕ} (m : ℕ) → i < m → getD (build f m) i d ≡ f (build f i) i
+unfolding build
+getD-build f d {i} m h =
+    le-ind (λ (m : ℕ). getD (build f m) i d ≡ f (build f i) i)
+    (getD-at (build f i) (f (build f i) i) [] d i (length-build f i))
+    (λ m h r. List·getD-append (build f m) (f (build f m) m ∷ []) d i (omega (arith, length-build f m)) ∙ r)
+    m h
+
+-- so a shorter list agrees with a longer one
+pub build-agree : (f : List ℕ → ℕ → ℕ) (d : ℕ) {i n m : ℕ} → i < n → i < m → getD (build f n) i d ≡ getD (build f m) i d
+build-agree f d {n = n} {m = m} h g = getD-build f d n h ∙ sym (getD-build f d m g)
+
+pub build-same : (f g : List ℕ → ℕ → ℕ) (m : ℕ) → ((l : List ℕ) (n : ℕ) → n < m → f l n ≡ g l n) → build f m ≡ build g m
+unfolding build
+build-same f g zero h = refl
+build-same f g (suc m) h =
+    let r : build f m ≡ build g m = build-same f g m (λ l n p. h l n (omega arith)) in
+    (λ i. r i ++ (f (r i) m ∷ [])) ∙ (λ i. build g m ++ (h (build g m) m (omega arith) i ∷ []))
+
+-- A loop that fills a slice d by rising index: what it has filled is the list made so far, the rest is as it was.
+pub build-none : (f : List ℕ → ℕ → ℕ) (d : List ℕ) → d ≡ build f 0 ++ drop 0 d
+unfolding build
+build-none f d = refl
+
+pub build-store : (f : List ℕ → ℕ → ℕ) (d : List ℕ) (i : ℕ) → i < length d
+    → set (build f i ++ drop i d) i (f (build f i) i) ≡ build f (i + 1) ++ drop (i + 1) d
+unfolding build
+build-store f d i l =
+    rw (add-one, drop-cons d i 0, set-at (build f i) (getD d i 0) (drop (suc i) d) (f (build f i) i) i (length-build f i), append-snoc)
+
+pub build-whole : (f : List ℕ → ℕ → ℕ) (d : List ℕ) (n : ℕ) → length d ≡ n → build f n ++ drop n d ≡ build f n
+build-whole f d n e = let h : length d ≤ n = omega arith in rw (drop-of-length-le d h, append-nil)
+
+-- such a slice holds the list's element below i, and its old one from i on
+pub build-read : (f : List ℕ → ℕ → ℕ) (d : List ℕ) (i j : ℕ) → j < i → at (build f i ++ drop i d) j ≡ at (build f i) j
+build-read f d i j h = List·getD-append (build f i) (drop i d) 0 j (omega (arith, length-build f i))
+
+pub build-rest : (f : List ℕ → ℕ → ℕ) (d : List ℕ) (i : ℕ) → i < length d → at (build f i ++ drop i d) i ≡ at d i
+build-rest f d i h = rw (drop-cons d i 0) (getD-at (build f i) (getD d i 0) (drop (suc i) d) 0 i (length-build f i))
+
+-- all elements are below b
+pub data Below (b : ℕ) : List ℕ → Type 0 where
+  bnil : Below b []
+  bcons : {x : ℕ} {xs : List ℕ} → x < b → Below b xs → Below b (x ∷ xs)
+
+pub below-at : {b : ℕ} {xs : List ℕ} → Below b xs → (k : ℕ) → k < length xs → at xs k < b
+below-at bnil k h = absurd (not-suc-le-zero h)
+below-at (bcons p r) zero h = p
+below-at (bcons p r) (suc k) h = below-at r k (le-of-suc-le-suc h)
+
+below-snoc : {b : ℕ} {xs : List ℕ} → Below b xs → (x : ℕ) → x < b → Below b (xs ++ (x ∷ []))
+below-snoc bnil x h = bcons h bnil
+below-snoc (bcons p r) x h = bcons p (below-snoc r x h)
+
+pub below-table : (g : ℕ → ℕ) (b m : ℕ) → ((k : ℕ) → k < m → g k < b) → Below b (table g m)
+unfolding build
+below-table g b zero h = bnil
+below-table g b (suc m) h = below-snoc (below-table g b m (λ k p. h k (omega arith))) (g m) (h m (omega arith))
+
+pub length-indexed : (f : ℕ → ℕ → ℕ) (k : ℕ) (xs : List ℕ) → length (indexed f k xs) ≡ length xs
+length-indexed f k [] = refl
+length-indexed f k (x ∷ xs) = ap suc (length-indexed f (suc k) xs)
+
+pub indexed-at : (f : ℕ → ℕ → ℕ) (i : ℕ) (xs : List ℕ) (k d : ℕ) → k < length xs → getD (indexed f i xs) k d ≡ f (i + k) (at xs k)
+indexed-at f i [] k d h = absurd (not-suc-le-zero h)
+indexed-at f i (x ∷ xs) zero d h = rw add-zero
+indexed-at f i (x ∷ xs) (suc k) d h = indexed-at f (suc i) xs k d (le-of-suc-le-suc h) ∙ rw (suc-add, add-suc)
+
+pub indexed-agree : {b : ℕ} {xs : List ℕ} → Below b xs → (f g : ℕ → ℕ → ℕ) (k : ℕ) → ((k x : ℕ) → x < b → f k x ≡ g k x) → indexed f k xs ≡ indexed g k xs
+indexed-agree bnil f g k h = refl
+indexed-agree (bcons {x} {xs} p r) f g k h = λ i. h k x p i ∷ indexed-agree r f g (suc k) h i

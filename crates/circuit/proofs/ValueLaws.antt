@@ -1,0 +1,48 @@
+-- Laws of the values of a line.
+use mathlib.Core.Path.{_≡_, refl}
+use Prim.Native.Nat.{_<_, _≤_, suc, zero, ℕ}
+use native.Mathlib.Omega.{arith}
+use Rattle.circuit.specs.Value.{and₂, neg, or₂, stuckOr, xor₂}
+
+pub stuck-known : (s v : ℕ) → s < 2 → stuckOr s v ≡ s
+stuck-known zero v h = refl
+stuck-known (suc zero) v h = refl
+stuck-known (suc (suc s)) v h = absurd (omega arith)
+
+pub stuck-free : (s v : ℕ) → 2 ≤ s → stuckOr s v ≡ v
+stuck-free zero v h = absurd (omega arith)
+stuck-free (suc zero) v h = absurd (omega arith)
+stuck-free (suc (suc s)) v h = refl
+
+pub neg-unknown : (v : ℕ) → 2 ≤ v → neg v ≡ 2
+neg-unknown zero h = absurd (omega arith)
+neg-unknown (suc zero) h = absurd (omega arith)
+neg-unknown (suc (suc v)) h = refl
+
+pub and-zero : (v : ℕ) → and₂ v 0 ≡ 0
+and-zero zero = refl
+and-zero (suc zero) = refl
+and-zero (suc (suc v)) = refl
+
+pub and-unknown : (v w : ℕ) → 2 ≤ v → 1 ≤ w → and₂ v w ≡ 2
+and-unknown zero w h g = absurd (omega arith)
+and-unknown (suc zero) w h g = absurd (omega arith)
+and-unknown (suc (suc v)) zero h g = absurd (omega arith)
+and-unknown (suc (suc v)) (suc w) h g = refl
+
+pub or-one : (v : ℕ) → or₂ v 1 ≡ 1
+or-one zero = refl
+or-one (suc zero) = refl
+or-one (suc (suc v)) = refl
+
+pub or-unknown : (v w : ℕ) → 2 ≤ v → (w ≡ 1 → ⊥) → or₂ v w ≡ 2
+or-unknown zero w h g = absurd (omega arith)
+or-unknown (suc zero) w h g = absurd (omega arith)
+or-unknown (suc (suc v)) zero h g = refl
+or-unknown (suc (suc v)) (suc zero) h g = absurd (g refl)
+or-unknown (suc (suc v)) (suc (suc w)) h g = refl
+
+pub xor-unknown : (v w : ℕ) → 2 ≤ v → xor₂ v w ≡ 2
+xor-unknown zero w h = absurd (omega arith)
+xor-unknown (suc zero) w h = absurd (omega arith)
+xor-unknown (suc (suc v)) w h = refl

@@ -1,0 +1,34 @@
+use borrow.Author.Needs.{needs}
+use Rattle.circuit.proofs.fault.stuck_pin.Statement.{statement}
+use Rattle.circuit.proofs.fault.stuck_pin.Tie as tie
+use Rattle.circuit.proofs.fault.stuck_pin.Reads as reads
+use Rattle.circuit.proofs.fault.stuck_pin.Lts as lts
+use Rattle.circuit.proofs.fault.is_pin.Reads as is-pin-reads
+
+-- src/fault.rt:64:26
+enum-told : tie.Need-enum-told
+enum-told c = search needs
+
+-- src/fault.rt:65:25
+enum-known-circuit : tie.Need-enum-known-circuit
+enum-known-circuit c = search needs
+
+-- src/fault.rt:67:38
+is-pin-requires : tie.Need-is-pin-requires
+is-pin-requires c κs = search needs
+
+-- src/fault.rt:60:1
+returns : tie.Need-returns
+returns c = ?
+
+-- src/fault.rt:60:1
+returns-2 : tie.Need-returns-2
+returns-2 c = ?
+
+-- src/fault.rt:60:1
+returns-3 : tie.Need-returns-3
+returns-3 c = ?
+
+pub stuck-pin-spec : {M : Type 1} → statement M
+stuck-pin-spec =
+    tie.close (tie.spec enum-told enum-known-circuit is-pin-requires returns returns-2 returns-3)

@@ -1,0 +1,15 @@
+use Rattle.circuit.proofs.kind.is_given.Statement.{statement}
+use Rattle.circuit.proofs.kind.is_given.Tie as tie
+use Rattle.circuit.proofs.kind.is_given.Reads as reads
+use Rattle.circuit.proofs.kind.is_given.Lts as lts
+
+-- src/kind.rt:76:1
+returns : tie.Need-returns
+returns c = ?
+
+-- src/kind.rt:76:1
+returns-2 : tie.Need-returns-2
+returns-2 c = ?
+
+pub is-given-spec : {M : Type 1} → statement M
+is-given-spec = tie.close (tie.spec returns returns-2)

@@ -1,0 +1,20 @@
+use borrow.Author.Needs.{needs}
+use Rattle.circuit.proofs.kind.negation.Statement.{statement}
+use Rattle.circuit.proofs.kind.negation.Tie as tie
+use Rattle.circuit.proofs.kind.negation.Reads as reads
+use Rattle.circuit.proofs.kind.negation.Lts as lts
+
+-- src/kind.rt:82:1
+returns : tie.Need-returns
+returns c = search needs
+
+-- src/kind.rt:82:1
+returns-2 : tie.Need-returns-2
+returns-2 c = search needs
+
+-- src/kind.rt:82:1
+returns-3 : tie.Need-returns-3
+returns-3 c = ?
+
+pub negation-spec : {M : Type 1} → statement M
+negation-spec = tie.close (tie.spec returns returns-2 returns-3)

@@ -1,0 +1,32 @@
+use borrow.Author.Needs.{needs}
+use Rattle.circuit.proofs.netlist.count_fits.Statement.{statement}
+use Rattle.circuit.proofs.netlist.count_fits.Tie as tie
+use Rattle.circuit.proofs.netlist.count_fits.Reads as reads
+use Rattle.circuit.proofs.netlist.count_fits.Lts as lts
+use Rattle.circuit.proofs.kind.rule_of.Reads as rule-of-reads
+use Rattle.circuit.proofs.netlist.kind_of.Reads as kind-of-reads
+use Rattle.circuit.proofs.netlist.length_of.Reads as length-of-reads
+
+-- src/netlist.rt:99:24
+kind-of-requires : tie.Need-kind-of-requires
+kind-of-requires c κs = search needs
+
+-- src/netlist.rt:99:9
+rule-of-requires : tie.Need-rule-of-requires
+rule-of-requires c κs = search needs
+
+-- src/netlist.rt:100:9
+length-of-requires : tie.Need-length-of-requires
+length-of-requires c κs = search needs
+
+-- src/netlist.rt:96:1
+returns : tie.Need-returns
+returns c = ?
+
+-- src/netlist.rt:96:1
+returns-2 : tie.Need-returns-2
+returns-2 c = ?
+
+pub count-fits-spec : {M : Type 1} → statement M
+count-fits-spec =
+    tie.close (tie.spec kind-of-requires rule-of-requires length-of-requires returns returns-2)

@@ -1,0 +1,32 @@
+// Loads and stores that are total: past the end a load gives 0 and a store does nothing,
+// so that no caller has to show that its index is within the slice.
+ghost use mathlib.Core.Path.{_≡_};
+ghost use lib.ListN.{set};
+ghost use Rattle.circuit.specs.Lists.{at};
+ghost use Rattle.circuit.specs.Netlist.{u16At};
+
+// The byte at a place.
+pub fn byte_at(bytes: &[u8], place: usize) -> u8
+    ensures { λ r. ⌜ r ≡ at (now (bytes .entry)) place ⌝ }
+{
+    if place < bytes.len() { bytes[place] } else { 0 }
+}
+
+// The number of two bytes, little-endian.
+pub fn u16_at(bytes: &[u8], place: usize) -> u16
+    ensures { λ r. ⌜ r ≡ u16At (now (bytes .entry)) place ⌝ }
+{
+    if bytes.len() <= place {
+        return 0;
+    }
+    byte_at(bytes, place) as u16 + 256 * (byte_at(bytes, place + 1) as u16)
+}
+
+// Puts a byte at a place.
+pub fn store(bytes: &mut [u8], place: usize, value: u8)
+    ensures { λ _. ⌜ now (bytes .exit) ≡ set (now (bytes .entry)) place value ⌝ }
+{
+    if place < bytes.len() {
+        bytes[place] = value;
+    }
+}

@@ -1,0 +1,104 @@
+// Stuck-at faults, and the lines that they hold.
+ghost use mathlib.Core.Path.{_≡_};
+ghost use Rattle.circuit.specs.Value.{stuckOr};
+ghost use Rattle.circuit.specs.Netlist.{netOf};
+ghost use Rattle.circuit.specs.Fault.{isWhole, isPin, siteExists, faultExists, circuitExists, linesIn};
+use crate::kind::UNKNOWN;
+use crate::netlist::length_of;
+use crate::netlist::node_count;
+
+// Where a fault sits: the node itself, or one of its pins, counted from 0.
+pub enum Site {
+    Whole,
+    Pin(u8),
+}
+
+pub struct Fault {
+    pub node: u16,
+    pub site: Site,
+    pub stuck: u8,
+}
+
+// The circuit as it was meant, or with a fault.
+pub enum Circuit {
+    Good,
+    Faulty(Fault),
+}
+
+fn is_whole(site: Site) -> bool
+    ensures { λ r. ⌜ r ≡ isWhole site ⌝ }
+{
+    match site {
+        Site::Whole => true,
+        Site::Pin(_) => false,
+    }
+}
+
+fn is_pin(site: Site, pin: u16) -> bool
+    ensures { λ r. ⌜ r ≡ isPin site pin ⌝ }
+{
+    match site {
+        Site::Whole => false,
+        Site::Pin(k) => k as u16 == pin,
+    }
+}
+
+// The value that a node is stuck at, UNKNOWN where it is not stuck.
+pub fn stuck_node(circuit: Circuit, node: u16) -> u8
+    ensures { λ r. ⌜ r ≡ linesIn circuit .node node ⌝ }
+{
+    match circuit {
+        Circuit::Good => UNKNOWN,
+        Circuit::Faulty(fault) => {
+            let site = fault.site;
+            if fault.node == node && is_whole(site) { fault.stuck } else { UNKNOWN }
+        }
+    }
+}
+
+// The value that a pin is stuck at, UNKNOWN where it is not stuck.
+pub fn stuck_pin(circuit: Circuit, node: u16, pin: u16) -> u8
+    ensures { λ r. ⌜ r ≡ linesIn circuit .pin node pin ⌝ }
+{
+    match circuit {
+        Circuit::Good => UNKNOWN,
+        Circuit::Faulty(fault) => {
+            let site = fault.site;
+            if fault.node == node && is_pin(site, pin) { fault.stuck } else { UNKNOWN }
+        }
+    }
+}
+
+// The stuck value where there is one, else the line's own value.
+pub fn stuck_or(stuck: u8, own: u8) -> u8
+    ensures { λ r. ⌜ r ≡ stuckOr stuck own ⌝ }
+{
+    if stuck < UNKNOWN { stuck } else { own }
+}
+
+fn site_exists(site: Site, count: u16) -> bool
+    ensures { λ r. ⌜ r ≡ siteExists site count ⌝ }
+{
+    match site {
+        Site::Whole => true,
+        Site::Pin(k) => (k as u16) < count,
+    }
+}
+
+// Whether a netlist has the fault's node and site, and the stuck value is 0 or 1.
+pub fn fault_exists(netlist: &[u8], fault: Fault) -> bool
+    ensures { λ r. ⌜ r ≡ faultExists (netOf (now (netlist .entry))) fault ⌝ }
+{
+    let site = fault.site;
+    let count = length_of(netlist, fault.node);
+    fault.node < node_count(netlist) && site_exists(site, count) && fault.stuck <= 1
+}
+
+pub fn circuit_exists(netlist: &[u8], circuit: Circuit) -> bool
+    ensures { λ r. ⌜ r ≡ circuitExists (netOf (now (netlist .entry))) circuit ⌝ }
+{
+    match circuit {
+        Circuit::Good => true,
+        Circuit::Faulty(fault) => fault_exists(netlist, fault),
+    }
+}
