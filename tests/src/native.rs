@@ -20,7 +20,7 @@ extern "C" {
 }
 
 /// A fault as the C interface takes it, byte for byte.
-#[derive(Clone, Copy, Debug)]
+#[derive(Clone, Copy, Debug, PartialEq, Eq)]
 pub struct FaultBytes {
     pub faulted: u8,
     pub node: u16,
