@@ -6,7 +6,7 @@ mod work;
 
 use measure::{compare, Pair};
 use std::process::ExitCode;
-use work::{Work, CIRCUITS};
+use work::Work;
 
 /// How many times the model's time the library may take.
 const LIMIT: f64 = 2.0;
@@ -16,6 +16,7 @@ const SIZES: [(usize, usize); 2] = [(300, 1_200), (4_096, 16_384)];
 
 struct Row {
     part: &'static str,
+    circuits: usize,
     nodes: usize,
     pins: usize,
     times: Pair,
@@ -36,59 +37,65 @@ fn main() -> ExitCode {
 /// Times the reader and the simulator on circuits of one size.
 fn measure_size((nodes, pins): (usize, usize)) -> [Row; 2] {
     let (mut model, mut library) = (Work::new(nodes, pins), Work::new(nodes, pins));
-    let row = |part, times| Row {
-        part,
-        nodes,
-        pins,
-        times,
-    };
+    let circuits = model.circuit_count();
     let read = compare(
         || library.read_with_library(),
         || model.read_with_model(),
-        CIRCUITS,
+        circuits,
     );
     let simulate = compare(
         || library.simulate_with_library(),
         || model.simulate_with_model(),
-        CIRCUITS,
+        circuits,
     );
     assert!(library == model, "library and model left different slices");
-    [row("read", read), row("simulate", simulate)]
+    [("read", read), ("simulate", simulate)].map(|(part, times)| Row {
+        part,
+        circuits,
+        nodes,
+        pins,
+        times,
+    })
 }
 
 fn print_heading() {
     println!("Library against Rust model; the limit of the ratio is {LIMIT:.2}.");
     println!(
-        "Wall time of a call, the median of {} interleaved repetitions.",
+        "Wall time of a call on random circuits, each with a fault; the median of {}",
         measure::REPETITIONS
     );
-    println!(
-        "{} random circuits of each size, each with a fault. The simulator's slices",
-        CIRCUITS
-    );
-    println!("are not cleared: a call starts from what the call before left in them.");
+    println!("repetitions, in which library and model take turns. The slices are not cleared");
+    println!("first: a step starts from what the step before left in them.");
     println!();
     println!(
-        "{:<9} {:>6} {:>7} {:>13} {:>13} {:>6}   {:>21}",
-        "part", "nodes", "pins", "library us", "model us", "ratio", "ns per node and pin"
+        "{:<9} {:>8} {:>6} {:>6} {:>11} {:>9} {:>6}  {:>19}",
+        "part",
+        "circuits",
+        "nodes",
+        "pins",
+        "library us",
+        "model us",
+        "ratio",
+        "ns per node and pin"
     );
-    println!("{:>74} {:>8}", "library", "model");
+    println!("{:>72} {:>9}", "library", "model");
 }
 
 fn print_row(row: &Row) {
     let Row {
         part,
+        circuits,
         nodes,
         pins,
         times,
     } = row;
-    let parts = (nodes + pins) as f64;
+    let size = (nodes + pins) as f64;
     println!(
-        "{part:<9} {nodes:>6} {pins:>7} {:>13.3} {:>13.3} {:>6.2}   {:>12.3} {:>8.3}",
+        "{part:<9} {circuits:>8} {nodes:>6} {pins:>6} {:>11.3} {:>9.3} {:>6.2}  {:>9.3} {:>9.3}",
         times.library * 1e6,
         times.model * 1e6,
         times.ratio(),
-        times.library * 1e9 / parts,
-        times.model * 1e9 / parts
+        times.library * 1e9 / size,
+        times.model * 1e9 / size
     );
 }

@@ -6,9 +6,10 @@ use leverpeach_tests::native::{self, FaultBytes};
 use leverpeach_tests::random::Random;
 use std::hint::black_box;
 
-/// Circuits of each size. One alone could be learnt by heart by the branch
-/// predictor.
-pub const CIRCUITS: usize = 16;
+/// Nodes of all circuits of one size together. It is the same for each size,
+/// so that caches and branch prediction help small circuits no more than large
+/// ones.
+const NODES_IN_ALL: usize = 65_536;
 
 /// A netlist, a fault of it, and the simulator's slices.
 #[derive(PartialEq)]
@@ -28,7 +29,7 @@ pub struct Work {
 impl Work {
     pub fn new(nodes: usize, pins: usize) -> Self {
         let mut random = Random::new(nodes as u64);
-        let circuits = (0..CIRCUITS).map(|_| {
+        let circuits = (0..NODES_IN_ALL / nodes).map(|_| {
             let draft = sound::of_size(&mut random, nodes, pins);
             Circuit {
                 netlist: draft.to_bytes(),
@@ -40,6 +41,11 @@ impl Work {
         Work {
             circuits: circuits.collect(),
         }
+    }
+
+    /// How many circuits there are, each read or stepped once in a run.
+    pub fn circuit_count(&self) -> usize {
+        self.circuits.len()
     }
 
     pub fn read_with_library(&self) {

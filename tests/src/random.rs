@@ -17,11 +17,11 @@ impl Random {
     /// not depend on how much the ones before it drew.
     pub fn of_case(seed: u64, case: u64) -> Self {
         let mut of_seed = Random::new(seed);
-        let start = of_seed.next() ^ case.wrapping_mul(STRIDE);
-        Random::new(Random::new(start).next())
+        let start = of_seed.word() ^ case.wrapping_mul(STRIDE);
+        Random::new(Random::new(start).word())
     }
 
-    pub fn next(&mut self) -> u64 {
+    pub fn word(&mut self) -> u64 {
         self.state = self.state.wrapping_add(STRIDE);
         let mut word = self.state;
         word = (word ^ (word >> 30)).wrapping_mul(0xBF58_476D_1CE4_E5B9);
@@ -31,7 +31,7 @@ impl Random {
 
     /// A number below `limit`, which is at least 1.
     pub fn below(&mut self, limit: usize) -> usize {
-        (self.next() % limit as u64) as usize
+        (self.word() % limit as u64) as usize
     }
 
     /// A number from `low` to `high`, both included.
@@ -45,11 +45,11 @@ impl Random {
     }
 
     pub fn bit(&mut self) -> u8 {
-        (self.next() >> 63) as u8
+        (self.word() >> 63) as u8
     }
 
     pub fn byte(&mut self) -> u8 {
-        (self.next() >> 56) as u8
+        (self.word() >> 56) as u8
     }
 
     pub fn bytes(&mut self, count: usize) -> Vec<u8> {
@@ -68,14 +68,14 @@ mod tests {
     #[test]
     fn draws_the_published_sequence() {
         let mut random = Random::new(1_234_567);
-        assert_eq!(random.next(), 6_457_827_717_110_365_317);
-        assert_eq!(random.next(), 3_203_168_211_198_807_973);
+        assert_eq!(random.word(), 6_457_827_717_110_365_317);
+        assert_eq!(random.word(), 3_203_168_211_198_807_973);
     }
 
     #[test]
     fn cases_differ() {
         let firsts: std::collections::BTreeSet<u64> = (0..1_000)
-            .map(|case| Random::of_case(7, case).next())
+            .map(|case| Random::of_case(7, case).word())
             .collect();
         assert_eq!(firsts.len(), 1_000);
     }

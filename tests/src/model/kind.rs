@@ -17,13 +17,14 @@ pub const LAST: u8 = XNOR;
 
 /// Whether a node of this kind may have this many pins.
 pub fn takes(kind: u8, pins: usize) -> bool {
-    match kind {
-        INPUT => pins == 0,
-        OUTPUT..=NOT => pins == 1,
-        AND..=NOR => (2..=8).contains(&pins),
-        XOR..=XNOR => pins == 2,
-        _ => false,
-    }
+    let (fewest, most) = match kind {
+        INPUT => (0, 0),
+        OUTPUT..=NOT => (1, 1),
+        AND..=NOR => (2, 8),
+        XOR..=XNOR => (2, 2),
+        _ => return false,
+    };
+    fewest <= pins && pins <= most
 }
 
 /// Whether the value of a node comes from outside the clock step: an input's
