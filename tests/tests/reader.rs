@@ -167,6 +167,13 @@ fn sums_of_offset_and_length_do_not_wrap() {
 }
 
 #[test]
+fn pairs_that_only_wrapped_sums_would_pass() {
+    run("wrapped pairs", 10_000, |_, random| {
+        assert_eq!(compare::read(&damaged::wrapped_pairs(random)), 5);
+    });
+}
+
+#[test]
 fn every_kind_with_every_pin_count() {
     for kind in 0..=XNOR {
         for pins in 0..=20 {

@@ -83,6 +83,36 @@ fn netlists_that_are_not_sound() {
 }
 
 #[test]
+fn bytes_of_every_short_length() {
+    let mut tally = Tally::default();
+    run("short bytes", 65 * 200, |case, random| {
+        let bytes = raw::of_length(random, (case % 65) as usize);
+        let nodes = bytes.first().map_or(0, |count| usize::from(*count));
+        let (first, second) = (random.bytes(nodes), random.bytes(nodes));
+        let fault = FaultBytes::new(random.below(8) as u16, random.byte(), random.byte());
+        let (answer, _, _) = compare::simulate(random, &bytes, fault, &first, &second);
+        tally.count(answer);
+    });
+    tally.assert_met(&[1, 2, 3, 4], 300);
+}
+
+#[test]
+fn netlists_past_every_limit() {
+    let mut random = Random::new(9);
+    let mut answer = |netlist: &[u8], nodes: usize| {
+        let slice = vec![1; nodes];
+        compare::simulate(&mut random, netlist, FaultBytes::NONE, &slice, &slice).0
+    };
+    let inputs = |count| Draft::of(&vec![(INPUT, &[][..]); count]).to_bytes();
+    assert_eq!(answer(&inputs(4_096), 4_096), 0);
+    assert_eq!(answer(&inputs(4_097), 4_097), 2);
+    assert_eq!(answer(&inputs(0), 0), 2);
+    let mut long = inputs(4_096);
+    long.resize(65_536, 0);
+    assert_eq!(answer(&long, 4_096), 3);
+}
+
+#[test]
 fn bytes_shaped_like_a_netlist() {
     let mut tally = Tally::default();
     run("shaped bytes", 60_000, |_, random| {

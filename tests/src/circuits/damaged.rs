@@ -93,6 +93,35 @@ fn broken_pair(random: &mut Random, nodes: usize, bytes: &mut [u8]) {
     put(bytes, place, new);
 }
 
+/// Records whose pairs keep their rule only if sums are taken modulo 65,536:
+/// refused with 5. All lengths together are just above 65,535.
+pub fn wrapped_pairs(random: &mut Random) -> Vec<u8> {
+    let pins = random.below(40);
+    let records = random.between(1, 4);
+    let mut left = 65_536 + pins;
+    let mut lengths = Vec::new();
+    for _ in 0..records {
+        let length = random.below(left.min(65_535) + 1);
+        lengths.push(length);
+        left -= length;
+    }
+    while left > 0 {
+        lengths.push(left.min(65_535));
+        left -= left.min(65_535);
+    }
+    let mut bytes = vec![0; 4 + 5 * lengths.len() + 2 * pins];
+    put(&mut bytes, 0, lengths.len());
+    put(&mut bytes, 2, pins);
+    let mut offset = 0;
+    for (node, length) in lengths.into_iter().enumerate() {
+        bytes[4 + 5 * node] = random.below(11) as u8;
+        put(&mut bytes, 5 + 5 * node, offset % 65_536);
+        put(&mut bytes, 7 + 5 * node, length);
+        offset += length;
+    }
+    bytes
+}
+
 fn wrong_length(random: &mut Random, bytes: &mut Vec<u8>) {
     if random.bit() == 0 {
         let more = random.pick(&[1, 2, 5, 7, 300]);
