@@ -7,6 +7,9 @@ use leverpeach_tests::random::Random;
 use std::fs;
 use std::path::{Path, PathBuf};
 
+/// Clocks that a netlist is stepped with one fault.
+const CLOCKS: usize = 20;
+
 fn example_files() -> Vec<PathBuf> {
     let directory = Path::new(env!("CARGO_MANIFEST_DIR")).join("../examples");
     let entries = fs::read_dir(directory).expect("the examples are there");
@@ -19,14 +22,14 @@ fn example_files() -> Vec<PathBuf> {
 }
 
 /// Steps a netlist some clocks with one fault, each clock from what the one
-/// before latched, and with new inputs.
-fn step_some_clocks(random: &mut Random, netlist: &[u8], nodes: usize) {
+/// before latched, and with new inputs. Gives back how many clocks were done.
+fn step_some_clocks(random: &mut Random, netlist: &[u8], nodes: usize) -> usize {
     // Without a look at the kinds, any node may turn out to lack the pin.
     let site = random.pick(&[0, 1, 255, 255]);
     let fault = FaultBytes::new(random.below(nodes) as u16, site, random.bit());
     let kind = |node: usize| netlist[4 + 5 * node];
     let mut latched: Vec<u8> = (0..nodes).map(|_| random.bit()).collect();
-    for _ in 0..20 {
+    for _ in 0..CLOCKS {
         let places = latched.iter().enumerate();
         let first: Vec<u8> = places
             .map(|(node, value)| {
@@ -41,10 +44,11 @@ fn step_some_clocks(random: &mut Random, netlist: &[u8], nodes: usize) {
         let (answer, _, next) = compare::simulate(random, netlist, fault, &first, &second);
         if answer != 0 {
             assert_eq!(answer, 9, "{fault:?}");
-            return;
+            return 0;
         }
         latched = next;
     }
+    CLOCKS
 }
 
 #[test]
@@ -57,8 +61,11 @@ fn examples_are_sound_and_step_alike() {
         let answer = compare::read(&netlist);
         assert!(answer > 16, "{} is refused: {answer}", file.display());
         let nodes = (answer >> 16 & 0xFFFF) as usize;
+        let mut done = 0;
         run("example clocks", 100, |_, random| {
-            step_some_clocks(random, &netlist, nodes);
+            done += step_some_clocks(random, &netlist, nodes);
         });
+        // Half of the faults sit on a node itself, and every node has that site.
+        assert!(done >= 30 * CLOCKS, "only {done} clocks were done");
     }
 }
