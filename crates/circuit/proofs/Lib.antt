@@ -3,3 +3,4 @@ pub mod BoolLaws
 pub mod ListLaws
 pub mod ValueLaws
 pub mod KindLaws
+pub mod NetlistLaws

@@ -1,6 +1,7 @@
 // The netlist: what its bytes say, and whether they are a sound netlist.
 ghost use mathlib.Core.Path.{_≡_};
-ghost use mathlib.Core.Bool.{_&&_};
+ghost use mathlib.Core.Bool.{_&&_, cond};
+ghost use Rattle.circuit.specs.Kind.{isFlipFlop};
 ghost use lib.Dec.{eqb};
 ghost use Prim.Native.Nat.{_<_};
 ghost use Rattle.circuit.specs.Lists.{every};
@@ -60,7 +61,7 @@ pub fn source_of(netlist: &[u8], node: u16, pin: u16) -> u16
 fn sizes_allowed(n: u16, p: u16) -> bool
     ensures { λ r. ⌜ r ≡ sizesAllowed n p ⌝ }
 {
-    0 < n && n <= 4096 && p <= 16384
+    0 < n && (n <= 4096 && p <= 16384)
 }
 
 fn kinds_known(netlist: &[u8], n: u16) -> bool
@@ -114,14 +115,20 @@ fn counts_fit(netlist: &[u8], n: u16) -> bool
     true
 }
 
-// No pin names an output. A flip-flop's pin names any node, another node's pin a smaller number.
+// A flip-flop's pin names any node, another node's pin a smaller number.
+fn source_limit(netlist: &[u8], n: u16, node: u16) -> u16
+    ensures { λ r. ⌜ r ≡ cond (isFlipFlop (kindOf (now (netlist .entry)) node)) n node ⌝ }
+{
+    if kind_of(netlist, node) == FLIP_FLOP { n } else { node }
+}
+
+// Besides, no pin names an output.
 fn source_allowed(netlist: &[u8], n: u16, node: u16, pin: u16) -> bool
     requires { ⌜ n ≡ nodeCount (now netlist) ⌝ }
     ensures { λ r. ⌜ r ≡ sourceAllowed (now (netlist .entry)) node pin ⌝ }
 {
     let source = source_of(netlist, node, pin);
-    let limit = if kind_of(netlist, node) == FLIP_FLOP { n } else { node };
-    source < limit && kind_of(netlist, source) != OUTPUT
+    source < source_limit(netlist, n, node) && kind_of(netlist, source) != OUTPUT
 }
 
 fn sources_allowed(netlist: &[u8], n: u16, node: u16) -> bool
