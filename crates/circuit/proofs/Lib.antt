@@ -3,3 +3,5 @@ pub mod BoolLaws
 pub mod ListLaws
 pub mod ValueLaws
 pub mod KindLaws
+pub mod RefusalLaws
+pub mod SoundLaws
