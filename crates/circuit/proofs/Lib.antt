@@ -5,3 +5,4 @@ pub mod ValueLaws
 pub mod KindLaws
 pub mod RefusalLaws
 pub mod SoundLaws
+pub mod ClockLaws
