@@ -3,4 +3,7 @@ pub mod BoolLaws
 pub mod ListLaws
 pub mod ValueLaws
 pub mod KindLaws
+pub mod RefusalLaws
 pub mod NetlistLaws
+pub mod SoundLaws
+pub mod ClockLaws
