@@ -4,6 +4,7 @@ ghost use mathlib.Core.Bool.{_&&_, cond};
 ghost use Rattle.circuit.specs.Kind.{isFlipFlop};
 ghost use lib.Dec.{eqb};
 ghost use Prim.Native.Nat.{_<_};
+ghost use Rattle.circuit.specs.Answer.{numberOf};
 ghost use Rattle.circuit.specs.Lists.{every};
 ghost use Rattle.circuit.specs.Netlist.{nodeCount, pinCount, kindOf, offsetOf, lengthOf, sourceOf, pairStart, sizesAllowed, kindKnown, pairJoined, countFits, sourceAllowed, sourcesAllowed, reading, readingSays};
 use crate::bytes::byte_at;
@@ -16,6 +17,16 @@ use crate::kind::OUTPUT;
 pub enum Reading {
     Sound(u16, u16),
     Refused(u8),
+}
+
+// The number of a refusal, 0 where nothing is refused.
+pub fn refusal_number(reading: Reading) -> u8
+    ensures { λ r. ⌜ r ≡ numberOf (readingSays reading) ⌝ }
+{
+    match reading {
+        Reading::Sound(_, _) => 0,
+        Reading::Refused(number) => number,
+    }
 }
 
 pub fn node_count(netlist: &[u8]) -> u16

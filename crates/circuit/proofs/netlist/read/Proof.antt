@@ -1,3 +1,10 @@
+use mathlib.Core.Bool.{true, false}
+use denote.Ref.{now}
+use lib.ListN.{length}
+use lib.Dec.{leb}
+use Rattle.circuit.specs.Netlist.{nodeCount, pinCount, sizesAllowed}
+use Rattle.circuit.proofs.RefusalLaws.{fails-here, fails-later}
+use Rattle.circuit.proofs.NetlistLaws.{read-refused, read-sound}
 use mathlib.Core.Path.{_≡_, refl, sym, _∙_}
 use borrow.Author.Tests.{le-leb, lt-leb, eq-eqb, ne-eqb, not-true, not-false}
 use Rattle.circuit.specs.Netlist.{reading}
@@ -16,8 +23,9 @@ use Rattle.circuit.proofs.netlist.sizes_allowed.Reads as sizes-allowed-
 
 -- src/netlist.rt:168:9
 returns : tie.Need-returns
-unfolding reading
-returns c = rw (lt-leb 4 _ (c .if1 .taken))
+returns c = let s = now (c .before .before .args .netlist) in
+    read-refused s 1
+        (fails-here (lt-leb 4 _ (c .if1 .taken)) refl)
 
 -- src/netlist.rt:170:9
 node-count-requires : tie.Need-node-count-requires
@@ -33,8 +41,10 @@ sizes-allowed-requires c κs = search needs
 
 -- src/netlist.rt:173:9
 returns-2 : tie.Need-returns-2
-unfolding reading
-returns-2 c = rw (le-leb 4 _ (c .before .before .before .before .if1 .left), ← c .before .before .before .node-count .ensures, ← c .before .before .pin-count .ensures, ← c .before .sizes-allowed .ensures, not-true _ (c .if2 .taken))
+returns-2 c = let s = now (c .before .before .before .before .before .before .args .netlist) in
+    read-refused s 2
+        (fails-later (le-leb 4 _ (c .before .before .before .before .if1 .left))
+        (fails-here (rw (← c .before .before .before .node-count .ensures, ← c .before .before .pin-count .ensures) (sym (c .before .sizes-allowed .ensures) ∙ not-true _ (c .if2 .taken))) refl))
 
 -- src/netlist.rt:175:34
 cast-if3 : tie.Need-cast-if3
@@ -62,8 +72,11 @@ add-if3-2 c = search needs
 
 -- src/netlist.rt:176:9
 returns-3 : tie.Need-returns-3
-unfolding reading
-returns-3 c = rw (le-leb 4 _ (c .before .before .before .before .before .if1 .left), ← c .before .before .before .before .node-count .ensures, ← c .before .before .before .pin-count .ensures, ← c .before .before .sizes-allowed .ensures, not-false _ (c .before .if2 .left), ne-eqb _ _ (c .if3 .taken))
+returns-3 c = let s = now (c .before .before .before .before .before .before .before .args .netlist) in
+    read-refused s 3
+        (fails-later (le-leb 4 _ (c .before .before .before .before .before .if1 .left))
+        (fails-later (rw (← c .before .before .before .before .node-count .ensures, ← c .before .before .before .pin-count .ensures) (sym (c .before .before .sizes-allowed .ensures) ∙ not-false _ (c .before .if2 .left)))
+        (fails-here (rw (← c .before .before .before .before .node-count .ensures, ← c .before .before .before .pin-count .ensures) (ne-eqb _ _ (c .if3 .taken))) refl)))
 
 -- src/netlist.rt:178:9
 kinds-known-requires : tie.Need-kinds-known-requires
@@ -71,8 +84,12 @@ kinds-known-requires c κs = search needs
 
 -- src/netlist.rt:179:9
 returns-4 : tie.Need-returns-4
-unfolding reading
-returns-4 c = rw (le-leb 4 _ (c .before .before .before .before .before .before .before .if1 .left), ← c .before .before .before .before .before .before .node-count .ensures, ← c .before .before .before .before .before .pin-count .ensures, ← c .before .before .before .before .sizes-allowed .ensures, not-false _ (c .before .before .before .if2 .left), eq-eqb _ _ (c .before .before .if3 .left), ← c .before .kinds-known .ensures, not-true _ (c .if4 .taken))
+returns-4 c = let s = now (c .before .before .before .before .before .before .before .before .before .args .netlist) in
+    read-refused s 4
+        (fails-later (le-leb 4 _ (c .before .before .before .before .before .before .before .if1 .left))
+        (fails-later (rw (← c .before .before .before .before .before .before .node-count .ensures, ← c .before .before .before .before .before .pin-count .ensures) (sym (c .before .before .before .before .sizes-allowed .ensures) ∙ not-false _ (c .before .before .before .if2 .left)))
+        (fails-later (rw (← c .before .before .before .before .before .before .node-count .ensures, ← c .before .before .before .before .before .pin-count .ensures) (eq-eqb _ _ (c .before .before .if3 .left)))
+        (fails-here (rw (← c .before .before .before .before .before .before .node-count .ensures) (sym (c .before .kinds-known .ensures) ∙ not-true _ (c .if4 .taken))) refl))))
 
 -- src/netlist.rt:181:9
 pairs-joined-requires : tie.Need-pairs-joined-requires
@@ -80,8 +97,13 @@ pairs-joined-requires c κs = search needs
 
 -- src/netlist.rt:182:9
 returns-5 : tie.Need-returns-5
-unfolding reading
-returns-5 c = rw (le-leb 4 _ (c .before .before .before .before .before .before .before .before .before .if1 .left), ← c .before .before .before .before .before .before .before .before .node-count .ensures, ← c .before .before .before .before .before .before .before .pin-count .ensures, ← c .before .before .before .before .before .before .sizes-allowed .ensures, not-false _ (c .before .before .before .before .before .if2 .left), eq-eqb _ _ (c .before .before .before .before .if3 .left), ← c .before .before .before .kinds-known .ensures, not-false _ (c .before .before .if4 .left), ← c .before .pairs-joined .ensures, not-true _ (c .if5 .taken))
+returns-5 c = let s = now (c .before .before .before .before .before .before .before .before .before .before .before .args .netlist) in
+    read-refused s 5
+        (fails-later (le-leb 4 _ (c .before .before .before .before .before .before .before .before .before .if1 .left))
+        (fails-later (rw (← c .before .before .before .before .before .before .before .before .node-count .ensures, ← c .before .before .before .before .before .before .before .pin-count .ensures) (sym (c .before .before .before .before .before .before .sizes-allowed .ensures) ∙ not-false _ (c .before .before .before .before .before .if2 .left)))
+        (fails-later (rw (← c .before .before .before .before .before .before .before .before .node-count .ensures, ← c .before .before .before .before .before .before .before .pin-count .ensures) (eq-eqb _ _ (c .before .before .before .before .if3 .left)))
+        (fails-later (rw (← c .before .before .before .before .before .before .before .before .node-count .ensures) (sym (c .before .before .before .kinds-known .ensures) ∙ not-false _ (c .before .before .if4 .left)))
+        (fails-here (rw (← c .before .before .before .before .before .before .before .before .node-count .ensures, ← c .before .before .before .before .before .before .before .pin-count .ensures) (sym (c .before .pairs-joined .ensures) ∙ not-true _ (c .if5 .taken))) refl)))))
 
 -- src/netlist.rt:184:9
 counts-fit-requires : tie.Need-counts-fit-requires
@@ -89,8 +111,14 @@ counts-fit-requires c κs = search needs
 
 -- src/netlist.rt:185:9
 returns-6 : tie.Need-returns-6
-unfolding reading
-returns-6 c = rw (le-leb 4 _ (c .before .before .before .before .before .before .before .before .before .before .before .if1 .left), ← c .before .before .before .before .before .before .before .before .before .before .node-count .ensures, ← c .before .before .before .before .before .before .before .before .before .pin-count .ensures, ← c .before .before .before .before .before .before .before .before .sizes-allowed .ensures, not-false _ (c .before .before .before .before .before .before .before .if2 .left), eq-eqb _ _ (c .before .before .before .before .before .before .if3 .left), ← c .before .before .before .before .before .kinds-known .ensures, not-false _ (c .before .before .before .before .if4 .left), ← c .before .before .before .pairs-joined .ensures, not-false _ (c .before .before .if5 .left), ← c .before .counts-fit .ensures, not-true _ (c .if6 .taken))
+returns-6 c = let s = now (c .before .before .before .before .before .before .before .before .before .before .before .before .before .args .netlist) in
+    read-refused s 6
+        (fails-later (le-leb 4 _ (c .before .before .before .before .before .before .before .before .before .before .before .if1 .left))
+        (fails-later (rw (← c .before .before .before .before .before .before .before .before .before .before .node-count .ensures, ← c .before .before .before .before .before .before .before .before .before .pin-count .ensures) (sym (c .before .before .before .before .before .before .before .before .sizes-allowed .ensures) ∙ not-false _ (c .before .before .before .before .before .before .before .if2 .left)))
+        (fails-later (rw (← c .before .before .before .before .before .before .before .before .before .before .node-count .ensures, ← c .before .before .before .before .before .before .before .before .before .pin-count .ensures) (eq-eqb _ _ (c .before .before .before .before .before .before .if3 .left)))
+        (fails-later (rw (← c .before .before .before .before .before .before .before .before .before .before .node-count .ensures) (sym (c .before .before .before .before .before .kinds-known .ensures) ∙ not-false _ (c .before .before .before .before .if4 .left)))
+        (fails-later (rw (← c .before .before .before .before .before .before .before .before .before .before .node-count .ensures, ← c .before .before .before .before .before .before .before .before .before .pin-count .ensures) (sym (c .before .before .before .pairs-joined .ensures) ∙ not-false _ (c .before .before .if5 .left)))
+        (fails-here (rw (← c .before .before .before .before .before .before .before .before .before .before .node-count .ensures) (sym (c .before .counts-fit .ensures) ∙ not-true _ (c .if6 .taken))) refl))))))
 
 -- src/netlist.rt:187:9
 all-sources-allowed-requires : tie.Need-all-sources-allowed-requires
@@ -98,13 +126,21 @@ all-sources-allowed-requires c κs = c .before .before .before .before .before .
 
 -- src/netlist.rt:188:9
 returns-7 : tie.Need-returns-7
-unfolding reading
-returns-7 c = rw (le-leb 4 _ (c .before .before .before .before .before .before .before .before .before .before .before .before .before .if1 .left), ← c .before .before .before .before .before .before .before .before .before .before .before .before .node-count .ensures, ← c .before .before .before .before .before .before .before .before .before .before .before .pin-count .ensures, ← c .before .before .before .before .before .before .before .before .before .before .sizes-allowed .ensures, not-false _ (c .before .before .before .before .before .before .before .before .before .if2 .left), eq-eqb _ _ (c .before .before .before .before .before .before .before .before .if3 .left), ← c .before .before .before .before .before .before .before .kinds-known .ensures, not-false _ (c .before .before .before .before .before .before .if4 .left), ← c .before .before .before .before .before .pairs-joined .ensures, not-false _ (c .before .before .before .before .if5 .left), ← c .before .before .before .counts-fit .ensures, not-false _ (c .before .before .if6 .left), ← c .before .all-sources-allowed .ensures, not-true _ (c .if7 .taken))
+returns-7 c = let s = now (c .before .before .before .before .before .before .before .before .before .before .before .before .before .before .before .args .netlist) in
+    read-refused s 7
+        (fails-later (le-leb 4 _ (c .before .before .before .before .before .before .before .before .before .before .before .before .before .if1 .left))
+        (fails-later (rw (← c .before .before .before .before .before .before .before .before .before .before .before .before .node-count .ensures, ← c .before .before .before .before .before .before .before .before .before .before .before .pin-count .ensures) (sym (c .before .before .before .before .before .before .before .before .before .before .sizes-allowed .ensures) ∙ not-false _ (c .before .before .before .before .before .before .before .before .before .if2 .left)))
+        (fails-later (rw (← c .before .before .before .before .before .before .before .before .before .before .before .before .node-count .ensures, ← c .before .before .before .before .before .before .before .before .before .before .before .pin-count .ensures) (eq-eqb _ _ (c .before .before .before .before .before .before .before .before .if3 .left)))
+        (fails-later (rw (← c .before .before .before .before .before .before .before .before .before .before .before .before .node-count .ensures) (sym (c .before .before .before .before .before .before .before .kinds-known .ensures) ∙ not-false _ (c .before .before .before .before .before .before .if4 .left)))
+        (fails-later (rw (← c .before .before .before .before .before .before .before .before .before .before .before .before .node-count .ensures, ← c .before .before .before .before .before .before .before .before .before .before .before .pin-count .ensures) (sym (c .before .before .before .before .before .pairs-joined .ensures) ∙ not-false _ (c .before .before .before .before .if5 .left)))
+        (fails-later (rw (← c .before .before .before .before .before .before .before .before .before .before .before .before .node-count .ensures) (sym (c .before .before .before .counts-fit .ensures) ∙ not-false _ (c .before .before .if6 .left)))
+        (fails-here (rw (← c .before .before .before .before .before .before .before .before .before .before .before .before .node-count .ensures) (sym (c .before .all-sources-allowed .ensures) ∙ not-true _ (c .if7 .taken))) refl)))))))
 
 -- src/netlist.rt:164:1
 returns-8 : tie.Need-returns-8
-unfolding reading
-returns-8 c = rw (le-leb 4 _ (c .before .before .before .before .before .before .before .before .before .before .before .before .before .if1 .left), ← c .before .before .before .before .before .before .before .before .before .before .before .before .node-count .ensures, ← c .before .before .before .before .before .before .before .before .before .before .before .pin-count .ensures, ← c .before .before .before .before .before .before .before .before .before .before .sizes-allowed .ensures, not-false _ (c .before .before .before .before .before .before .before .before .before .if2 .left), eq-eqb _ _ (c .before .before .before .before .before .before .before .before .if3 .left), ← c .before .before .before .before .before .before .before .kinds-known .ensures, not-false _ (c .before .before .before .before .before .before .if4 .left), ← c .before .before .before .before .before .pairs-joined .ensures, not-false _ (c .before .before .before .before .if5 .left), ← c .before .before .before .counts-fit .ensures, not-false _ (c .before .before .if6 .left), ← c .before .all-sources-allowed .ensures, not-false _ (c .if7 .left))
+returns-8 c = let s = now (c .before .before .before .before .before .before .before .before .before .before .before .before .before .before .before .args .netlist) in
+    rw (c .before .before .before .before .before .before .before .before .before .before .before .before .node-count .ensures, c .before .before .before .before .before .before .before .before .before .before .before .pin-count .ensures)
+        (read-sound s (le-leb 4 _ (c .before .before .before .before .before .before .before .before .before .before .before .before .before .if1 .left), (rw (← c .before .before .before .before .before .before .before .before .before .before .before .before .node-count .ensures, ← c .before .before .before .before .before .before .before .before .before .before .before .pin-count .ensures) (sym (c .before .before .before .before .before .before .before .before .before .before .sizes-allowed .ensures) ∙ not-false _ (c .before .before .before .before .before .before .before .before .before .if2 .left)), (rw (← c .before .before .before .before .before .before .before .before .before .before .before .before .node-count .ensures, ← c .before .before .before .before .before .before .before .before .before .before .before .pin-count .ensures) (eq-eqb _ _ (c .before .before .before .before .before .before .before .before .if3 .left)), (rw (← c .before .before .before .before .before .before .before .before .before .before .before .before .node-count .ensures) (sym (c .before .before .before .before .before .before .before .kinds-known .ensures) ∙ not-false _ (c .before .before .before .before .before .before .if4 .left)), (rw (← c .before .before .before .before .before .before .before .before .before .before .before .before .node-count .ensures, ← c .before .before .before .before .before .before .before .before .before .before .before .pin-count .ensures) (sym (c .before .before .before .before .before .pairs-joined .ensures) ∙ not-false _ (c .before .before .before .before .if5 .left)), (rw (← c .before .before .before .before .before .before .before .before .before .before .before .before .node-count .ensures) (sym (c .before .before .before .counts-fit .ensures) ∙ not-false _ (c .before .before .if6 .left)), (rw (← c .before .before .before .before .before .before .before .before .before .before .before .before .node-count .ensures) (sym (c .before .all-sources-allowed .ensures) ∙ not-false _ (c .if7 .left)), tt))))))))
 
 pub read-spec : {M : Type 1} → statement M
 read-spec =
