@@ -7,3 +7,5 @@ pub mod RefusalLaws
 pub mod NetlistLaws
 pub mod SoundLaws
 pub mod ClockLaws
+pub mod PinLaws
+pub mod StepLaws

@@ -80,8 +80,8 @@ unfolding build
 build-store f d i l =
     rw (add-one, drop-cons d i 0, set-at (build f i) (getD d i 0) (drop (suc i) d) (f (build f i) i) i (length-build f i), append-snoc)
 
-pub build-whole : (f : List ℕ → ℕ → ℕ) (d : List ℕ) (n : ℕ) → length d ≡ n → build f n ++ drop n d ≡ build f n
-build-whole f d n e = let h : length d ≤ n = omega arith in rw (drop-of-length-le d h, append-nil)
+pub build-end : (f : List ℕ → ℕ → ℕ) (d : List ℕ) (i n : ℕ) → i ≡ n → length d ≡ n → build f i ++ drop i d ≡ build f n
+build-end f d i n e h = let l : length d ≤ n = omega arith in rw (e, drop-of-length-le d l, append-nil)
 
 -- such a slice holds the list's element below i, and its old one from i on
 pub build-read : (f : List ℕ → ℕ → ℕ) (d : List ℕ) (i j : ℕ) → j < i → at (build f i ++ drop i d) j ≡ at (build f i) j

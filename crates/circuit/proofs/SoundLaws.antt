@@ -15,7 +15,7 @@ use Rattle.circuit.proofs.RefusalLaws.{FirstFails, NoneSmaller, Passed,
 use Rattle.circuit.specs.Answer.{refusal, refused}
 use Rattle.circuit.specs.Kind.{isFlipFlop, isOutput, ruleOf}
 use Rattle.circuit.specs.Lists.{every}
-use Rattle.circuit.specs.Netlist.{countFits, kindKnown, kindOf, lengthOf, nodeCount, offsetOf, pairJoined, pairStart, pinCount, readerTests, reading, sizesAllowed, sound, sourceAllowed, sourceOf, sourcesAllowed}
+use Rattle.circuit.specs.Netlist.{countFits, kindKnown, kindOf, lengthOf, netOf, nodeCount, offsetOf, pairJoined, pairStart, pinCount, readerTests, reading, sizesAllowed, sound, sourceAllowed, sourceOf, sourcesAllowed}
 
 -- A sound netlist, in 01's words: N and P are within their limits, and the bytes are as many as they say. Kinds are known,
 -- pairs are joined, pin counts fit the kinds, and each pin's source is a node, no output, and smaller unless the pin is a flip-flop's.
@@ -143,6 +143,11 @@ pub facts : (bs : List ℕ) (n p : ℕ) → reading bs ≡ sound n p → Facts b
 facts bs n p e =
     let t = sound-passed bs n p e in
     rw (t .1, t .2) (passed-facts bs (t .0))
+
+-- the circuit has N nodes
+pub sound-size : (bs : List ℕ) (n p : ℕ) → reading bs ≡ sound n p → n ≡ netOf bs .size
+unfolding netOf
+sound-size bs n p e = facts bs n p e .nodes
 
 -- every pin of a node stands within the P pins
 pub pins-within : {bs : List ℕ} {n p : ℕ} → Facts bs n p → (i : ℕ) → i < n → offsetOf bs i + lengthOf bs i ≤ p

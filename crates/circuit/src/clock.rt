@@ -3,7 +3,7 @@ ghost use mathlib.Core.Path.{_≡_};
 ghost use Prim.Native.Nat.{_<_};
 ghost use lib.ListN.{length};
 ghost use Rattle.circuit.specs.Lists.{at, every};
-ghost use Rattle.circuit.specs.Netlist.{kindOf, netOf, nodeCount, pinCount, reading, sound, sourceOf};
+ghost use Rattle.circuit.specs.Netlist.{kindOf, netOf, pinCount, reading, sound, sourceOf};
 ghost use Rattle.circuit.specs.Kind.{gate};
 ghost use Rattle.circuit.specs.Value.{stuckOr};
 ghost use Rattle.circuit.specs.Fault.{linesIn};
@@ -135,7 +135,7 @@ fn places_readable(netlist: &[u8], n: u16, first: &[u8]) -> bool
 }
 
 fn slices_fit(netlist: &[u8], n: u16, first: &[u8], second: &[u8]) -> bool
-    requires { ⌜ n ≡ nodeCount (now netlist) ⌝ }
+    requires { ⌜ n ≡ netOf (now netlist) .size ⌝ }
     ensures { λ r. ⌜ r ≡ slicesFit (netOf (now (netlist .entry))) (now (first .entry)) (now (second .entry)) ⌝ }
 {
     first.len() == n as usize && (second.len() == n as usize && places_readable(netlist, n, first))

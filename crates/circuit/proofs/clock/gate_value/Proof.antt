@@ -1,3 +1,15 @@
+use lib.ListN.{drop, length}
+use Rattle.circuit.specs.Netlist.{netOf, lengthOf}
+use Rattle.circuit.specs.Lists.{at}
+use Rattle.circuit.specs.Kind.{functionOf, joinOf, gate, invertedIf}
+use Rattle.circuit.specs.Fault.{linesIn}
+use Rattle.circuit.specs.Clock.{pinValues}
+use Rattle.circuit.proofs.PinLaws.{length-pinValues, pinValues-at, function-none, function-more}
+use denote.Ref.{now}
+use Prim.Native.Nat.{ℕ, _≤_, _-_, _<_, _+_, suc}
+use mathlib.Core.Path.{_≡_, refl, sym, _∙_, ap}
+use native.Mathlib.Omega.{arith}
+use borrow.Author.Needs.{needs}
 use Rattle.circuit.proofs.clock.gate_value.Statement.{statement}
 use Rattle.circuit.proofs.clock.gate_value.Tie as tie
 use Rattle.circuit.proofs.clock.gate_value.Reads as reads
@@ -11,58 +23,75 @@ use Rattle.circuit.proofs.netlist.kind_of.Reads as kind-of-reads
 use Rattle.circuit.proofs.netlist.length_of.Reads as length-of-reads
 
 abbrev Inv-loop : tie.InvT-loop
-Inv-loop netlist circuit seen node rule gate value₀ pin₀ value pin = ?
+Inv-loop netlist circuit seen node rule gate value₀ pin₀ value pin = (pin ≤ lengthOf netlist node) × (value ≡ functionOf gate (drop pin (pinValues (netOf netlist) (linesIn circuit) (at seen) node)))
 
 abbrev μ-loop : tie.MeasureT-loop
-μ-loop netlist circuit seen node rule gate value₀ pin₀ value pin = ?
+μ-loop netlist circuit seen node rule gate value₀ pin₀ value pin = pin
 
 -- src/clock.rt:51:24
 kind-of-requires : tie.Need-kind-of-requires Inv-loop μ-loop
-kind-of-requires c κs = ?
+kind-of-requires c κs = search needs
 
 -- src/clock.rt:51:9
 rule-of-requires : tie.Need-rule-of-requires Inv-loop μ-loop
-rule-of-requires c κs = ?
+rule-of-requires c κs = search needs
 
 -- src/clock.rt:53:9
 unit-of-requires : tie.Need-unit-of-requires Inv-loop μ-loop
-unit-of-requires c κs = ?
+unit-of-requires c κs = search needs
 
 -- src/clock.rt:54:9
 length-of-requires : tie.Need-length-of-requires Inv-loop μ-loop
-length-of-requires c κs = ?
+length-of-requires c κs = search needs
 
 -- src/clock.rt:55:5
 loop-holds : tie.Need-loop-holds Inv-loop μ-loop
-loop-holds c = ?
+loop-holds c = let a = c .before .before .before .before .before .before .args in
+    let vs = pinValues (netOf (now (a .netlist))) (linesIn (a .circuit)) (at (now (a .seen))) (a .node) in
+    let l = length-pinValues (now (a .netlist)) (linesIn (a .circuit)) (at (now (a .seen))) (a .node) in
+    (omega (arith, c .length-of .ensures), rw (c .before .unit-of .ensures, c .length-of .ensures, ← l) (function-none (c .before .before .rule-of .result .gate) vs))
 
 -- src/clock.rt:56:9
 sub-pin : tie.Need-sub-pin Inv-loop μ-loop
-sub-pin c = ?
+sub-pin c = search needs
 
 -- src/clock.rt:57:31
 pin-value-requires : tie.Need-pin-value-requires Inv-loop μ-loop
-pin-value-requires c κs = ?
+pin-value-requires c κs = search needs
 
 -- src/clock.rt:57:9
 join-of-requires : tie.Need-join-of-requires Inv-loop μ-loop
-join-of-requires c κs = ?
+join-of-requires c κs = search needs
 
 -- src/clock.rt:55:5
 loop-less : tie.Need-loop-less Inv-loop μ-loop
-loop-less c = ?
+loop-less c = omega arith
 
 -- src/clock.rt:55:5
 loop-again : tie.Need-loop-again Inv-loop μ-loop
-loop-again c = ?
+loop-again c = let a = c .before .before .before .before .before .before .before .before .before .before .args in
+    let s = now (a .netlist) in
+    let g = c .before .before .before .before .before .before .rule-of .result .gate in
+    let vs = pinValues (netOf s) (linesIn (a .circuit)) (at (now (a .seen))) (a .node) in
+    let l = c .before .before .before .loop in
+    let len = length-pinValues s (linesIn (a .circuit)) (at (now (a .seen))) (a .node) in
+    let h : l .pin - 1 < lengthOf s (a .node) = omega (arith, l .inv .0, c .before .before .loop-test .taken) in
+    (
+      omega (arith, h),
+      rw (c .join-of .ensures, c .before .pin-value .ensures, ← pinValues-at s (linesIn (a .circuit)) (at (now (a .seen))) (a .node) (l .pin - 1) h, l .inv .1)
+      (function-more g vs (l .pin) (c .before .before .loop-test .taken) (omega (arith, len, l .inv .0))),
+    )
 
 -- src/clock.rt:59:5
 inverted-if-requires : tie.Need-inverted-if-requires Inv-loop μ-loop
-inverted-if-requires c κs = ?
+inverted-if-requires c κs = search needs
 
 -- src/clock.rt:48:1
 returns : tie.Need-returns Inv-loop μ-loop
-returns c = ?
+unfolding gate
+returns c = let l = c .before .before .loop in
+    let z : l .pin ≡ 0 = omega arith in
+    rw (c .inverted-if .ensures, l .inv .1, z, c .before .before .before .before .before .rule-of .ensures, c .before .before .before .before .before .before .kind-of .ensures)
 
 pub gate-value-spec : {M : Type 1} → statement M
 gate-value-spec =

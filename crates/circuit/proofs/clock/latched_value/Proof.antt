@@ -1,3 +1,16 @@
+use Rattle.circuit.specs.Netlist.{netOf, lengthOf, kindOf, pinCount}
+use Rattle.circuit.specs.Kind.{ruleOf}
+use borrow.Author.Tests.{eq-eqb, ne-eqb}
+use Rattle.circuit.specs.Netlist.{netOf}
+use Rattle.circuit.specs.Lists.{at}
+use Rattle.circuit.specs.Fault.{linesIn}
+use Rattle.circuit.specs.Clock.{latchedBy}
+use Rattle.circuit.proofs.SoundLaws.{Facts, facts}
+use Rattle.circuit.proofs.PinLaws.{pinValues-at}
+use denote.Ref.{now}
+use Prim.Native.Nat.{ℕ, _≤_, _-_, _<_, _+_, suc}
+use mathlib.Core.Path.{_≡_, refl, sym, _∙_, ap}
+use native.Mathlib.Omega.{arith}
 use borrow.Author.Needs.{needs}
 use Rattle.circuit.proofs.clock.latched_value.Statement.{statement}
 use Rattle.circuit.proofs.clock.latched_value.Tie as tie
@@ -16,11 +29,18 @@ pin-value-requires c κs = search needs
 
 -- src/clock.rt:91:1
 returns : tie.Need-returns
-returns c = ?
+unfolding latchedBy netOf ruleOf
+returns c = let a = c .before .before .before .before .before .args in
+    let s = now (a .netlist) in
+    let f = facts s (a .n) (pinCount s) (c .before .before .before .before .before .pre .0) in
+    let k : kindOf s (a .node) ≡ 2 = sym (c .before .before .kind-of .ensures) ∙ c .before .if1 .taken in
+    let h : 0 < lengthOf s (a .node) = omega (arith, rw k at (f .count-least (a .node) (c .before .before .before .before .before .pre .1))) in
+    rw (k, c .pin-value .ensures) (sym (pinValues-at s (linesIn (a .circuit)) (at (now (a .seen))) (a .node) 0 h))
 
 -- src/clock.rt:91:1
 returns-2 : tie.Need-returns-2
-returns-2 c = ?
+unfolding latchedBy netOf
+returns-2 c = rw (← c .before .kind-of .ensures, ne-eqb _ _ (c .if1 .left))
 
 pub latched-value-spec : {M : Type 1} → statement M
 latched-value-spec = tie.close (tie.spec kind-of-requires pin-value-requires returns returns-2)

@@ -30,7 +30,7 @@ stuck-or-requires c κs = search needs
 
 -- src/clock.rt:39:1
 returns : tie.Need-returns
-returns c = ?
+returns c = rw (c .stuck-or .ensures, c .before .stuck-pin .ensures, c .before .before .byte-at .ensures, c .before .before .before .source-of .ensures)
 
 pub pin-value-spec : {M : Type 1} → statement M
 pin-value-spec =

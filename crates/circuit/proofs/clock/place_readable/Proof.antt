@@ -1,3 +1,6 @@
+use borrow.Author.Tests.{not-true, not-false}
+use Rattle.circuit.specs.Netlist.{netOf}
+use Rattle.circuit.specs.Clock.{placeReadable}
 use borrow.Author.Needs.{needs}
 use Rattle.circuit.proofs.clock.place_readable.Statement.{statement}
 use Rattle.circuit.proofs.clock.place_readable.Tie as tie
@@ -21,11 +24,13 @@ byte-at-requires c κs = search needs
 
 -- src/clock.rt:118:1
 returns : tie.Need-returns
-returns c = ?
+unfolding placeReadable netOf
+returns c = rw (← c .before .before .kind-of .ensures, ← c .before .is-given .ensures, not-true (c .before .is-given .result) (c .if1 .taken))
 
 -- src/clock.rt:118:1
 returns-2 : tie.Need-returns-2
-returns-2 c = ?
+unfolding placeReadable netOf
+returns-2 c = rw (← c .before .before .before .kind-of .ensures, ← c .before .before .is-given .ensures, not-false (c .before .before .is-given .result) (c .before .if1 .left), c .byte-at .ensures)
 
 pub place-readable-spec : {M : Type 1} → statement M
 place-readable-spec =

@@ -1,3 +1,14 @@
+use mathlib.Core.Bool.{true}
+use borrow.Author.Tests.{not-true, not-false}
+use Rattle.circuit.specs.Netlist.{netOf}
+use Rattle.circuit.specs.Clock.{placeReadable}
+use Rattle.circuit.specs.Lists.{every}
+use Rattle.circuit.proofs.ListLaws.{every-more, every-fails, every-done}
+use denote.Ref.{now}
+use Prim.Native.Nat.{ℕ, _≤_, _-_, _<_, _+_, suc}
+use mathlib.Core.Path.{_≡_, refl, sym, _∙_, ap}
+use native.Mathlib.Omega.{arith}
+use borrow.Author.Needs.{needs}
 use Rattle.circuit.proofs.clock.places_readable.Statement.{statement}
 use Rattle.circuit.proofs.clock.places_readable.Tie as tie
 use Rattle.circuit.proofs.clock.places_readable.Reads as reads
@@ -5,38 +16,44 @@ use Rattle.circuit.proofs.clock.places_readable.Lts as lts
 use Rattle.circuit.proofs.clock.place_readable.Reads as place-readable-reads
 
 abbrev Inv-loop : tie.InvT-loop
-Inv-loop netlist n first node₀ node = ?
+Inv-loop netlist n first node₀ node = (node ≤ n) × (every (placeReadable (netOf netlist) first) node ≡ true)
 
 abbrev μ-loop : tie.MeasureT-loop
-μ-loop netlist n first node₀ node = ?
+μ-loop netlist n first node₀ node = n - node
 
 -- src/clock.rt:128:5
 loop-holds : tie.Need-loop-holds Inv-loop μ-loop
-loop-holds c = ?
+unfolding every
+loop-holds c = (omega arith, refl)
 
 -- src/clock.rt:129:13
 place-readable-requires : tie.Need-place-readable-requires Inv-loop μ-loop
-place-readable-requires c κs = ?
+place-readable-requires c κs = search needs
 
 -- src/clock.rt:130:13
 returns : tie.Need-returns Inv-loop μ-loop
-returns c = ?
+returns c = let a = c .before .before .before .before .before .before .args in
+    sym (every-fails (placeReadable (netOf (now (a .netlist))) (now (a .first))) _ (c .before .before .before .loop .node) (c .before .before .loop-test .taken) (sym (c .before .place-readable .ensures) ∙ not-true _ (c .if1 .taken)))
 
 -- src/clock.rt:132:9
 add-node : tie.Need-add-node Inv-loop μ-loop
-add-node c = ?
+add-node c = omega arith
 
 -- src/clock.rt:128:5
 loop-less : tie.Need-loop-less Inv-loop μ-loop
-loop-less c = ?
+loop-less c = omega arith
 
 -- src/clock.rt:128:5
 loop-again : tie.Need-loop-again Inv-loop μ-loop
-loop-again c = ?
+loop-again c = let a = c .before .before .before .before .before .before .args in
+    let l = c .before .before .before .loop in
+    (omega arith, every-more (placeReadable (netOf (now (a .netlist))) (now (a .first))) (l .node) (l .inv .1) (sym (c .before .place-readable .ensures) ∙ not-false _ (c .if1 .left)))
 
 -- src/clock.rt:124:1
 returns-2 : tie.Need-returns-2 Inv-loop μ-loop
-returns-2 c = ?
+returns-2 c = let a = c .before .before .before .before .args in
+    let l = c .before .loop in
+    every-done (placeReadable (netOf (now (a .netlist))) (now (a .first))) (l .node) _ (l .inv .1) (l .inv .0) (c .loop-test .left)
 
 pub places-readable-spec : {M : Type 1} → statement M
 places-readable-spec =

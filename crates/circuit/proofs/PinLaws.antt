@@ -1,0 +1,40 @@
+-- Laws of what a node's pins read, as the code walks them: by pin number, from the last pin on.
+use mathlib.Core.List.{List}
+use mathlib.Core.Path.{_∙_, _≡_, subst}
+use Prim.Native.Nat.{_+_, _-_, _<_, _≤_, suc, zero, ℕ}
+use native.Mathlib.Nat.{zero-add}
+use native.Mathlib.Omega.{arith}
+use lib.ListN.{drop, drop-of-length-le, length}
+use lib.Seq.{drop-cons}
+use Rattle.circuit.proofs.ListLaws.{indexed-at, length-indexed}
+use Rattle.circuit.proofs.NetlistLaws.{pins-at, pins-length}
+use Rattle.circuit.specs.Clock.{pinValues}
+use Rattle.circuit.specs.Fault.{StuckLines}
+use Rattle.circuit.specs.Kind.{functionOf, joinOf, unitOf}
+use Rattle.circuit.specs.Lists.{at}
+use Rattle.circuit.specs.Netlist.{lengthOf, netOf, sourceOf}
+use Rattle.circuit.specs.Value.{stuckOr}
+use Rattle.circuit.specs.declared.kind.Gate.{Gate}
+
+module _ (bs : List ℕ) (s : StuckLines) (v : ℕ → ℕ) (n : ℕ) where
+  pub length-pinValues : length (pinValues (netOf bs) s v n) ≡ lengthOf bs n
+  unfolding pinValues
+  length-pinValues = length-indexed (λ k m. stuckOr (s .pin n k) (v m)) 0 (netOf bs .pins n) ∙ pins-length bs n
+
+  -- what pin k reads
+  pub pinValues-at : (k : ℕ) → k < lengthOf bs n → at (pinValues (netOf bs) s v n) k ≡ stuckOr (s .pin n k) (v (sourceOf bs n k))
+  unfolding pinValues
+  pinValues-at k h =
+      indexed-at (λ k m. stuckOr (s .pin n k) (v m)) 0 (netOf bs .pins n) k 0 (omega (arith, pins-length bs n))
+      ∙ rw (zero-add, pins-at bs n k h)
+
+-- a gate's function of no pins
+pub function-none : (g : Gate) (vs : List ℕ) → unitOf g ≡ functionOf g (drop (length vs) vs)
+function-none g vs = let h : length vs ≤ length vs = omega arith in rw (drop-of-length-le vs h)
+
+-- one pin more in front, where pins are counted down to 0
+pub function-more : (g : Gate) (vs : List ℕ) (j : ℕ) → 0 < j → j ≤ length vs → joinOf g (at vs (j - 1)) (functionOf g (drop j vs)) ≡ functionOf g (drop (j - 1) vs)
+function-more g vs j h l =
+    let m : j - 1 < length vs = omega arith in
+    let e : suc (j - 1) ≡ j = omega arith in
+    subst (λ (i : ℕ). joinOf g (at vs (j - 1)) (functionOf g (drop i vs)) ≡ functionOf g (drop (j - 1) vs)) e (rw (drop-cons vs (j - 1) 0 m))

@@ -1,0 +1,138 @@
+use mathlib.Core.Path.{_≡_, refl, sym, ap, _∙_}
+use denote.Ref.{now}
+use borrow.Author.Tests.{not-true, not-false}
+use Rattle.circuit.specs.Netlist.{netOf, pinCount, reading, sound, readingSays}
+use Rattle.circuit.specs.Answer.{refused, answered}
+use Rattle.circuit.specs.Clock.{clocked, outcome, stepped, steppedSays}
+use Rattle.circuit.proofs.RefusalLaws.{fails-here, fails-later}
+use Rattle.circuit.proofs.SoundLaws.{facts, sound-size}
+use Rattle.circuit.proofs.StepLaws.{step-unsound, step-refused, step-done, first-length, second-length}
+use borrow.Author.Needs.{needs}
+use Rattle.circuit.proofs.clock.simulate.Statement.{statement}
+use Rattle.circuit.proofs.clock.simulate.Tie as tie
+use Rattle.circuit.proofs.clock.simulate.Reads as reads
+use Rattle.circuit.proofs.clock.simulate.Lts as lts
+use Rattle.circuit.proofs.clock.latch.Reads as latch-reads
+use Rattle.circuit.proofs.clock.settle.Reads as settle-reads
+use Rattle.circuit.proofs.clock.slices_fit.Reads as slices-fit-reads
+use Rattle.circuit.proofs.fault.circuit_exists.Reads as circuit-exists-reads
+use Rattle.circuit.proofs.netlist.read.Reads as read-reads
+use Rattle.circuit.proofs.netlist.refusal_number.Reads as refusal-number-reads
+
+-- src/clock.rt:148:9
+read-requires : tie.Need-read-requires
+read-requires c κs = search needs
+
+-- src/clock.rt:149:24
+enum-known-answer : tie.Need-enum-known-answer
+enum-known-answer c = search needs
+
+-- src/clock.rt:150:33
+enum-told : tie.Need-enum-told
+enum-told c = search needs
+
+-- src/clock.rt:150:33
+refusal-number-requires : tie.Need-refusal-number-requires
+refusal-number-requires c κs = search needs
+
+-- src/clock.rt:150:9
+returns : tie.Need-returns
+returns c = let a = c .before .before .before .before .before .before .before .args in
+    let q = clocked (now (a .netlist)) (a .circuit) (now (a .first)) (now (a .second)) in
+    let e = sym (ap readingSays (c .before .enum-told .given .1)) ∙ c .before .before .before .read .ensures in
+    rw (c .refusal-number .ensures, c .before .enum-told .given .1) (step-unsound q _ e)
+
+-- src/clock.rt:152:9
+circuit-exists-requires : tie.Need-circuit-exists-requires
+circuit-exists-requires c κs = search needs
+
+-- src/clock.rt:153:9
+returns-2 : tie.Need-returns-2
+returns-2 c = let a = c .before .before .before .before .before .before .before .before .before .args in
+    let q = clocked (now (a .netlist)) (a .circuit) (now (a .first)) (now (a .second)) in
+    let n = c .before .before .before .answer .given .0 .0 in
+    let p = c .before .before .before .answer .given .0 .1 .0 in
+    let e : sound n p ≡ reading (now (a .netlist)) = sym (ap readingSays (c .before .before .before .answer .given .1)) ∙ c .before .before .before .before .before .read .ensures in
+    step-refused q n p 9 e (fails-here (sym (c .before .circuit-exists .ensures) ∙ not-true _ (c .if1 .taken)) refl)
+
+-- src/clock.rt:155:9
+slices-fit-requires : tie.Need-slices-fit-requires
+slices-fit-requires c κs = let a = c .before .before .before .before .before .before .before .before .before .before .before .args in
+    let q = clocked (now (a .netlist)) (a .circuit) (now (a .first)) (now (a .second)) in
+    let n = c .before .before .before .before .before .answer .given .0 .0 in
+    let p = c .before .before .before .before .before .answer .given .0 .1 .0 in
+    let e : sound n p ≡ reading (now (a .netlist)) = sym (ap readingSays (c .before .before .before .before .before .answer .given .1)) ∙ c .before .before .before .before .before .before .before .read .ensures in
+    sound-size (now (a .netlist)) n p (sym e)
+
+-- src/clock.rt:156:9
+same-length : tie.Need-same-length
+same-length c = search needs
+
+-- src/clock.rt:156:9
+same-length-2 : tie.Need-same-length-2
+same-length-2 c = search needs
+
+-- src/clock.rt:156:9
+returns-3 : tie.Need-returns-3
+returns-3 c = let a = c .before .before .before .before .before .before .before .before .before .before .before .before .before .args in
+    let q = clocked (now (a .netlist)) (a .circuit) (now (a .first)) (now (a .second)) in
+    let n = c .before .before .before .before .before .before .before .answer .given .0 .0 in
+    let p = c .before .before .before .before .before .before .before .answer .given .0 .1 .0 in
+    let e : sound n p ≡ reading (now (a .netlist)) = sym (ap readingSays (c .before .before .before .before .before .before .before .answer .given .1)) ∙ c .before .before .before .before .before .before .before .before .before .read .ensures in
+    step-refused q n p 16 e (fails-later (sym (c .before .before .before .before .before .circuit-exists .ensures) ∙ not-false _ (c .before .before .before .before .if1 .left)) (fails-here (sym (c .before .slices-fit .ensures) ∙ not-true _ (c .if2 .taken)) refl))
+
+-- src/clock.rt:158:5
+settle-requires : tie.Need-settle-requires
+settle-requires c κs = let a = c .before .before .before .before .before .before .before .before .before .before .before .before .before .before .args in
+    let q = clocked (now (a .netlist)) (a .circuit) (now (a .first)) (now (a .second)) in
+    let n = c .before .before .before .before .before .before .before .before .answer .given .0 .0 in
+    let p = c .before .before .before .before .before .before .before .before .answer .given .0 .1 .0 in
+    let e : sound n p ≡ reading (now (a .netlist)) = sym (ap readingSays (c .before .before .before .before .before .before .before .before .answer .given .1)) ∙ c .before .before .before .before .before .before .before .before .before .before .read .ensures in
+    ?
+
+-- src/clock.rt:159:5
+latch-requires : tie.Need-latch-requires
+latch-requires c κs = let a = c .before .before .before .before .before .before .before .before .before .before .before .before .before .before .before .before .before .before .before .args in
+    let q = clocked (now (a .netlist)) (a .circuit) (now (a .first)) (now (a .second)) in
+    let n = c .before .before .before .before .before .before .before .before .before .before .before .before .before .answer .given .0 .0 in
+    let p = c .before .before .before .before .before .before .before .before .before .before .before .before .before .answer .given .0 .1 .0 in
+    let e : sound n p ≡ reading (now (a .netlist)) = sym (ap readingSays (c .before .before .before .before .before .before .before .before .before .before .before .before .before .answer .given .1)) ∙ c .before .before .before .before .before .before .before .before .before .before .before .before .before .before .before .read .ensures in
+    ?
+
+-- src/clock.rt:145:1
+same-length-3 : tie.Need-same-length-3
+same-length-3 c = search needs
+
+-- src/clock.rt:145:1
+same-length-4 : tie.Need-same-length-4
+same-length-4 c = search needs
+
+-- src/clock.rt:145:1
+returns-4 : tie.Need-returns-4
+returns-4 c = let a = c .before .before .before .before .before .before .before .before .before .before .before .before .before .before .before .before .before .before .before .before .before .before .args in
+    let q = clocked (now (a .netlist)) (a .circuit) (now (a .first)) (now (a .second)) in
+    let n = c .before .before .before .before .before .before .before .before .before .before .before .before .before .before .before .before .answer .given .0 .0 in
+    let p = c .before .before .before .before .before .before .before .before .before .before .before .before .before .before .before .before .answer .given .0 .1 .0 in
+    let e : sound n p ≡ reading (now (a .netlist)) = sym (ap readingSays (c .before .before .before .before .before .before .before .before .before .before .before .before .before .before .before .before .answer .given .1)) ∙ c .before .before .before .before .before .before .before .before .before .before .before .before .before .before .before .before .before .before .read .ensures in
+    ?
+
+pub simulate-spec : {M : Type 1} → statement M
+simulate-spec =
+    tie.close
+    (tie.spec
+    read-requires
+    enum-known-answer
+    enum-told
+    refusal-number-requires
+    returns
+    circuit-exists-requires
+    returns-2
+    slices-fit-requires
+    same-length
+    same-length-2
+    returns-3
+    settle-requires
+    latch-requires
+    same-length-3
+    same-length-4
+    returns-4)
