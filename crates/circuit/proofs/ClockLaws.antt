@@ -6,13 +6,13 @@ use Prim.Native.Nat.{_<_, suc, zero, ℕ}
 use native.Mathlib.Omega.{arith}
 use lib.Dec.{eqb}
 use lib.ListN.{drop, length}
-use borrow.Author.Tests.{eq-eqb, eqb-false, eqb-true}
+use borrow.Author.Tests.{eqb-false}
 use Rattle.circuit.proofs.ListLaws.{Below, below-table, build-agree, build-read, build-rest, build-same, getD-build, indexed-agree, length-build}
 use Rattle.circuit.proofs.SoundLaws.{Facts, facts}
 use Rattle.circuit.specs.Clock.{latchedBy, latchedList, pinValues, seenBy, seenList}
 use Rattle.circuit.specs.Fault.{StuckLines}
-use Rattle.circuit.specs.Kind.{gate, isFlipFlop, isGiven}
-use Rattle.circuit.specs.Lists.{at, build, table}
+use Rattle.circuit.specs.Kind.{gate, isGiven}
+use Rattle.circuit.specs.Lists.{at, build}
 use Rattle.circuit.specs.Netlist.{Net, kindOf, lengthOf, netOf, nodeCount, pinsOf, reading, sound, sourceOf}
 use Rattle.circuit.specs.Value.{stuckOr}
 

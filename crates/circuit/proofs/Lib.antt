@@ -5,4 +5,5 @@ pub mod ValueLaws
 pub mod KindLaws
 pub mod RefusalLaws
 pub mod SoundLaws
+pub mod GateLaws
 pub mod ClockLaws
