@@ -7,3 +7,4 @@ pub mod RefusalLaws
 pub mod SoundLaws
 pub mod GateLaws
 pub mod ClockLaws
+pub mod Vectors
