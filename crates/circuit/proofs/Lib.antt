@@ -7,4 +7,5 @@ pub mod RefusalLaws
 pub mod SoundLaws
 pub mod GateLaws
 pub mod ClockLaws
+pub mod RunLaws
 pub mod Vectors
