@@ -4,6 +4,7 @@ pub mod ListLaws
 pub mod ValueLaws
 pub mod KindLaws
 pub mod RefusalLaws
+pub mod NetlistLaws
 pub mod SoundLaws
 pub mod GateLaws
 pub mod ClockLaws

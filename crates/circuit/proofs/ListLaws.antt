@@ -40,6 +40,10 @@ every-fails f n i h e = go (every f n) refl
     go true q = sym (every-at f n q i h) ∙ e
     go false q = refl
 
+-- the end of such a loop
+pub every-done : (f : ℕ → Bool) (i n : ℕ) → every f i ≡ true → i ≤ n → n ≤ i → true ≡ every f n
+every-done f i n e h g = let q : i ≡ n = omega arith in rw (← q) (sym e)
+
 pub length-build : (f : List ℕ → ℕ → ℕ) (n : ℕ) → length (build f n) ≡ n
 unfolding build
 length-build f zero = refl

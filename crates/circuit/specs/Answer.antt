@@ -9,6 +9,11 @@ pub data Answer : Type 0 where
   refused : ℕ → Answer
   answered : List ℕ → Answer
 
+-- the refusal's number, 0 where nothing is refused
+abbrev pub numberOf : Answer → ℕ
+numberOf (refused k) = k
+numberOf (answered vs) = 0
+
 -- what has to hold, and the number of the refusal that is given where it does not.
 -- `passes` is a function, so that a later test is not computed before the earlier ones have passed.
 pub record Test (A : Type 0) : Type 0 where

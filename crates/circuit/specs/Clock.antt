@@ -42,6 +42,9 @@ pub record Clocked : Type 0 where
   pub first : List ℕ
   pub second : List ℕ
 
+abbrev pub clocked : List ℕ → Circuit → List ℕ → List ℕ → Clocked
+clocked bs x v w = record { netlist = bs; circuit = x; first = v; second = w }
+
 -- refusal 16: the read places are those of all inputs and flip-flops
 unfoldable pub placeReadable : Net → List ℕ → ℕ → Bool
 placeReadable c first n = not (isGiven (c .kind n)) || leb (at first n) 1

@@ -1,13 +1,13 @@
 // One clock step of a circuit, good or faulty.
 ghost use mathlib.Core.Path.{_≡_};
+ghost use Prim.Native.Nat.{_<_};
 ghost use lib.ListN.{length};
-ghost use Rattle.circuit.specs.Answer.{refused};
-ghost use Rattle.circuit.specs.Lists.{at};
-ghost use Rattle.circuit.specs.Netlist.{netOf, reading, sound, sourceOf};
+ghost use Rattle.circuit.specs.Lists.{at, every};
+ghost use Rattle.circuit.specs.Netlist.{kindOf, netOf, nodeCount, pinCount, reading, sound, sourceOf};
 ghost use Rattle.circuit.specs.Kind.{gate};
 ghost use Rattle.circuit.specs.Value.{stuckOr};
 ghost use Rattle.circuit.specs.Fault.{linesIn};
-ghost use Rattle.circuit.specs.Clock.{pinValues, seenBy, seenList, latchedBy, latchedList, placeReadable, slicesFit, outcome, simulation, steppedSays};
+ghost use Rattle.circuit.specs.Clock.{pinValues, seenBy, seenList, latchedBy, latchedList, placeReadable, slicesFit, clocked, outcome, simulation, steppedSays};
 use crate::bytes::byte_at;
 use crate::bytes::store;
 use crate::fault::circuit_exists;
@@ -21,9 +21,11 @@ use crate::kind::join_of;
 use crate::kind::rule_of;
 use crate::kind::unit_of;
 use crate::kind::FLIP_FLOP;
+use crate::kind::UNKNOWN;
 use crate::netlist::kind_of;
 use crate::netlist::length_of;
 use crate::netlist::read;
+use crate::netlist::refusal_number;
 use crate::netlist::source_of;
 use crate::netlist::Reading;
 
@@ -31,4 +33,129 @@ use crate::netlist::Reading;
 pub enum Stepped {
     Done,
     Refused(u8),
+}
+
+// What a node's pin reads.
+fn pin_value(netlist: &[u8], circuit: Circuit, seen: &[u8], node: u16, pin: u16) -> u8
+    ensures { λ r. ⌜ r ≡ stuckOr (linesIn circuit .pin node pin) (at (now (seen .entry)) (sourceOf (now (netlist .entry)) node pin)) ⌝ }
+{
+    let source = source_of(netlist, node, pin);
+    let value = byte_at(seen, source as usize);
+    stuck_or(stuck_pin(circuit, node, pin), value)
+}
+
+// What a node makes of its pins' values, which are joined from the last pin on.
+fn gate_value(netlist: &[u8], circuit: Circuit, seen: &[u8], node: u16) -> u8
+    ensures { λ r. ⌜ r ≡ gate (kindOf (now (netlist .entry)) node) (pinValues (netOf (now (netlist .entry))) (linesIn circuit) (at (now (seen .entry))) node) ⌝ }
+{
+    let rule = rule_of(kind_of(netlist, node));
+    let gate = rule.gate;
+    let mut value = unit_of(gate);
+    let mut pin = length_of(netlist, node);
+    while 0 < pin {
+        pin -= 1;
+        value = join_of(gate, pin_value(netlist, circuit, seen, node, pin), value);
+    }
+    inverted_if(rule.inverted, value)
+}
+
+// The seen value of a node, from its own place and its sources' places.
+fn seen_value(netlist: &[u8], circuit: Circuit, seen: &[u8], node: u16) -> u8
+    ensures { λ r. ⌜ r ≡ seenBy (netOf (now (netlist .entry))) (linesIn circuit) (at (now (seen .entry))) (at (now (seen .entry))) node ⌝ }
+{
+    let stuck = stuck_node(circuit, node);
+    if stuck < UNKNOWN {
+        return stuck;
+    }
+    if is_given(kind_of(netlist, node)) {
+        return byte_at(seen, node as usize);
+    }
+    gate_value(netlist, circuit, seen, node)
+}
+
+// Puts each node's seen value into its place, by rising node number.
+fn settle(netlist: &[u8], n: u16, circuit: Circuit, first: &mut [u8])
+    requires { ⌜ reading (now netlist) ≡ sound n (pinCount (now netlist)) ⌝ }
+    requires { ⌜ length (now first) ≡ n ⌝ }
+    ensures { λ _. ⌜ now (first .exit) ≡ seenList (netOf (now (netlist .entry))) (linesIn circuit) (at (now (first .entry))) ⌝ }
+{
+    let mut node: u16 = 0;
+    while node < n {
+        let value = seen_value(netlist, circuit, first, node);
+        store(first, node as usize, value);
+        node += 1;
+    }
+}
+
+// What a node latches: what a flip-flop's pin reads, 0 at other nodes.
+fn latched_value(netlist: &[u8], n: u16, circuit: Circuit, seen: &[u8], node: u16) -> u8
+    requires { ⌜ reading (now netlist) ≡ sound n (pinCount (now netlist)) ⌝ }
+    requires { ⌜ node < n ⌝ }
+    ensures { λ r. ⌜ r ≡ latchedBy (netOf (now (netlist .entry))) (linesIn circuit) (at (now (seen .entry))) node ⌝ }
+{
+    if kind_of(netlist, node) == FLIP_FLOP {
+        pin_value(netlist, circuit, seen, node, 0)
+    } else {
+        0
+    }
+}
+
+// Puts what each node latches into its place.
+fn latch(netlist: &[u8], n: u16, circuit: Circuit, seen: &[u8], second: &mut [u8])
+    requires { ⌜ reading (now netlist) ≡ sound n (pinCount (now netlist)) ⌝ }
+    requires { ⌜ length (now second) ≡ n ⌝ }
+    ensures { λ _. ⌜ now (second .exit) ≡ latchedList (netOf (now (netlist .entry))) (linesIn circuit) (at (now (seen .entry))) ⌝ }
+{
+    let mut node: u16 = 0;
+    while node < n {
+        let value = latched_value(netlist, n, circuit, seen, node);
+        store(second, node as usize, value);
+        node += 1;
+    }
+}
+
+// The place of an input or a flip-flop is read, and holds 0 or 1; other places are not read.
+fn place_readable(netlist: &[u8], first: &[u8], node: u16) -> bool
+    ensures { λ r. ⌜ r ≡ placeReadable (netOf (now (netlist .entry))) (now (first .entry)) node ⌝ }
+{
+    !is_given(kind_of(netlist, node)) || byte_at(first, node as usize) <= 1
+}
+
+fn places_readable(netlist: &[u8], n: u16, first: &[u8]) -> bool
+    ensures { λ r. ⌜ r ≡ every (placeReadable (netOf (now (netlist .entry))) (now (first .entry))) n ⌝ }
+{
+    let mut node: u16 = 0;
+    while node < n {
+        if !place_readable(netlist, first, node) {
+            return false;
+        }
+        node += 1;
+    }
+    true
+}
+
+fn slices_fit(netlist: &[u8], n: u16, first: &[u8], second: &[u8]) -> bool
+    requires { ⌜ n ≡ nodeCount (now netlist) ⌝ }
+    ensures { λ r. ⌜ r ≡ slicesFit (netOf (now (netlist .entry))) (now (first .entry)) (now (second .entry)) ⌝ }
+{
+    first.len() == n as usize && (second.len() == n as usize && places_readable(netlist, n, first))
+}
+
+// One clock step. Once it is done the first slice holds the seen values, the second what is latched.
+pub fn simulate(netlist: &[u8], circuit: Circuit, first: &mut [u8], second: &mut [u8]) -> Stepped
+    ensures { λ r. ⌜ outcome (steppedSays r) (now (first .exit)) (now (second .exit)) ≡ simulation (clocked (now (netlist .entry)) circuit (now (first .entry)) (now (second .entry))) ⌝ }
+{
+    let answer = read(netlist);
+    let Reading::Sound(n, _) = answer else {
+        return Stepped::Refused(refusal_number(answer));
+    };
+    if !circuit_exists(netlist, circuit) {
+        return Stepped::Refused(9);
+    }
+    if !slices_fit(netlist, n, first, second) {
+        return Stepped::Refused(16);
+    }
+    settle(netlist, n, circuit, first);
+    latch(netlist, n, circuit, first, second);
+    Stepped::Done
 }

@@ -89,9 +89,11 @@ fn site_exists(site: Site, count: u16) -> bool
 pub fn fault_exists(netlist: &[u8], fault: Fault) -> bool
     ensures { λ r. ⌜ r ≡ faultExists (netOf (now (netlist .entry))) fault ⌝ }
 {
+    let node = fault.node;
     let site = fault.site;
-    let count = length_of(netlist, fault.node);
-    fault.node < node_count(netlist) && site_exists(site, count) && fault.stuck <= 1
+    let stuck = fault.stuck;
+    let count = length_of(netlist, node);
+    node < node_count(netlist) && (site_exists(site, count) && stuck <= 1)
 }
 
 pub fn circuit_exists(netlist: &[u8], circuit: Circuit) -> bool

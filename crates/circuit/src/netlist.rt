@@ -1,8 +1,10 @@
 // The netlist: what its bytes say, and whether they are a sound netlist.
 ghost use mathlib.Core.Path.{_≡_};
-ghost use mathlib.Core.Bool.{_&&_};
+ghost use mathlib.Core.Bool.{_&&_, cond};
+ghost use Rattle.circuit.specs.Kind.{isFlipFlop};
 ghost use lib.Dec.{eqb};
 ghost use Prim.Native.Nat.{_<_};
+ghost use Rattle.circuit.specs.Answer.{numberOf};
 ghost use Rattle.circuit.specs.Lists.{every};
 ghost use Rattle.circuit.specs.Netlist.{nodeCount, pinCount, kindOf, offsetOf, lengthOf, sourceOf, pairStart, sizesAllowed, kindKnown, pairJoined, countFits, sourceAllowed, sourcesAllowed, reading, readingSays};
 use crate::bytes::byte_at;
@@ -15,6 +17,16 @@ use crate::kind::OUTPUT;
 pub enum Reading {
     Sound(u16, u16),
     Refused(u8),
+}
+
+// The number of a refusal, 0 where nothing is refused.
+pub fn refusal_number(reading: Reading) -> u8
+    ensures { λ r. ⌜ r ≡ numberOf (readingSays reading) ⌝ }
+{
+    match reading {
+        Reading::Sound(_, _) => 0,
+        Reading::Refused(number) => number,
+    }
 }
 
 pub fn node_count(netlist: &[u8]) -> u16
@@ -60,7 +72,7 @@ pub fn source_of(netlist: &[u8], node: u16, pin: u16) -> u16
 fn sizes_allowed(n: u16, p: u16) -> bool
     ensures { λ r. ⌜ r ≡ sizesAllowed n p ⌝ }
 {
-    0 < n && n <= 4096 && p <= 16384
+    0 < n && (n <= 4096 && p <= 16384)
 }
 
 fn kinds_known(netlist: &[u8], n: u16) -> bool
@@ -114,14 +126,20 @@ fn counts_fit(netlist: &[u8], n: u16) -> bool
     true
 }
 
-// No pin names an output. A flip-flop's pin names any node, another node's pin a smaller number.
+// A flip-flop's pin names any node, another node's pin a smaller number.
+fn source_limit(netlist: &[u8], n: u16, node: u16) -> u16
+    ensures { λ r. ⌜ r ≡ cond (isFlipFlop (kindOf (now (netlist .entry)) node)) n node ⌝ }
+{
+    if kind_of(netlist, node) == FLIP_FLOP { n } else { node }
+}
+
+// Besides, no pin names an output.
 fn source_allowed(netlist: &[u8], n: u16, node: u16, pin: u16) -> bool
     requires { ⌜ n ≡ nodeCount (now netlist) ⌝ }
     ensures { λ r. ⌜ r ≡ sourceAllowed (now (netlist .entry)) node pin ⌝ }
 {
     let source = source_of(netlist, node, pin);
-    let limit = if kind_of(netlist, node) == FLIP_FLOP { n } else { node };
-    source < limit && kind_of(netlist, source) != OUTPUT
+    source < source_limit(netlist, n, node) && kind_of(netlist, source) != OUTPUT
 }
 
 fn sources_allowed(netlist: &[u8], n: u16, node: u16) -> bool

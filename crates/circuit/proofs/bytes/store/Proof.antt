@@ -1,3 +1,6 @@
+use denote.Ref.{now}
+use mathlib.Core.Path.{sym}
+use lib.Seq.{set-out}
 use borrow.Author.Needs.{needs}
 use Rattle.circuit.proofs.bytes.store.Statement.{statement}
 use Rattle.circuit.proofs.bytes.store.Tie as tie
@@ -18,7 +21,8 @@ returns c = search needs
 
 -- src/bytes.rt:26:1
 returns-2 : tie.Need-returns-2
-returns-2 c = ?
+returns-2 c = let a = c .before .args in
+    sym (set-out (now (a .bytes)) (a .place) (a .value) (c .if1 .left))
 
 pub store-spec : {M : Type 1} → statement M
 store-spec = tie.close (tie.spec slice-write-bytes same-length returns returns-2)

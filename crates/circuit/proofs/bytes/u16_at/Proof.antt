@@ -1,3 +1,7 @@
+use denote.Ref.{now}
+use native.Mathlib.Omega.{arith}
+use Prim.Native.Nat.{_+_, _≤_}
+use lib.ListN.{List·getD-eq-default, length}
 use borrow.Author.Needs.{needs}
 use Rattle.circuit.proofs.bytes.u16_at.Statement.{statement}
 use Rattle.circuit.proofs.bytes.u16_at.Tie as tie
@@ -7,7 +11,9 @@ use Rattle.circuit.proofs.bytes.byte_at.Reads as byte-at-reads
 
 -- src/bytes.rt:20:9
 returns : tie.Need-returns
-returns c = ?
+returns c = let a = c .before .before .args in
+    let h : length (now (a .bytes)) ≤ a .place + 1 = omega arith in
+    rw (List·getD-eq-default (now (a .bytes)) 0 (c .if1 .taken), List·getD-eq-default (now (a .bytes)) 0 h)
 
 -- src/bytes.rt:22:5
 byte-at-requires : tie.Need-byte-at-requires

@@ -1,3 +1,4 @@
+use Rattle.circuit.specs.Fault.{circuitExists}
 use borrow.Author.Needs.{needs}
 use Rattle.circuit.proofs.fault.circuit_exists.Statement.{statement}
 use Rattle.circuit.proofs.fault.circuit_exists.Tie as tie
@@ -19,11 +20,13 @@ fault-exists-requires c κs = search needs
 
 -- src/fault.rt:97:1
 returns : tie.Need-returns
-returns c = ?
+unfolding circuitExists
+returns c = rw (c .enum-told .given .1)
 
 -- src/fault.rt:97:1
 returns-2 : tie.Need-returns-2
-returns-2 c = ?
+unfolding circuitExists
+returns-2 c = rw (c .before .before .circuit .given .1, c .fault-exists .ensures)
 
 pub circuit-exists-spec : {M : Type 1} → statement M
 circuit-exists-spec =

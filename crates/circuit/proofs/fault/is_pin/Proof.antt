@@ -22,7 +22,7 @@ returns c = search needs
 
 -- src/fault.rt:37:1
 returns-2 : tie.Need-returns-2
-returns-2 c = ?
+returns-2 c = rw (c .before .site .given .1)
 
 pub is-pin-spec : {M : Type 1} → statement M
 is-pin-spec = tie.close (tie.spec enum-told enum-known-site cast-result returns returns-2)

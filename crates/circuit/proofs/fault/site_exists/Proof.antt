@@ -22,7 +22,7 @@ returns c = search needs
 
 -- src/fault.rt:79:1
 returns-2 : tie.Need-returns-2
-returns-2 c = ?
+returns-2 c = rw (c .before .site .given .1)
 
 pub site-exists-spec : {M : Type 1} → statement M
 site-exists-spec = tie.close (tie.spec enum-told enum-known-site cast-result returns returns-2)

@@ -1,3 +1,7 @@
+use mathlib.Core.Path.{sym, _∙_}
+use mathlib.Core.Logic.{⊎-elim}
+use borrow.Author.Tests.{eq-eqb, ne-eqb}
+use Rattle.circuit.specs.Fault.{linesIn, linesOf}
 use borrow.Author.Needs.{needs}
 use Rattle.circuit.proofs.fault.stuck_node.Statement.{statement}
 use Rattle.circuit.proofs.fault.stuck_node.Tie as tie
@@ -19,15 +23,18 @@ is-whole-requires c κs = search needs
 
 -- src/fault.rt:47:1
 returns : tie.Need-returns
-returns c = ?
+unfolding linesIn linesOf
+returns c = rw (c .enum-told .given .1)
 
 -- src/fault.rt:47:1
 returns-2 : tie.Need-returns-2
-returns-2 c = ?
+unfolding linesIn linesOf
+returns-2 c = rw (c .before .before .before .before .before .circuit .given .1, eq-eqb _ _ (c .before .before .if1 .taken), sym (c .before .is-whole .ensures) ∙ c .if2 .taken)
 
 -- src/fault.rt:47:1
 returns-3 : tie.Need-returns-3
-returns-3 c = ?
+unfolding linesIn linesOf
+returns-3 c = rw (c .before .before .before .circuit .given .1) (⊎-elim (λ e. rw (eq-eqb _ _ (e .0 .taken), sym (e .1 .ensures) ∙ e .2 .left)) (λ e. rw (ne-eqb _ _ (e .left))) (c .if1 .came))
 
 pub stuck-node-spec : {M : Type 1} → statement M
 stuck-node-spec =

@@ -41,15 +41,15 @@ returns c = search needs
 
 -- src/kind.rt:133:1
 returns-2 : tie.Need-returns-2
-returns-2 c = ?
+returns-2 c = rw (c .before .enum-told2 .given .1, c .and-of .ensures)
 
 -- src/kind.rt:133:1
 returns-3 : tie.Need-returns-3
-returns-3 c = ?
+returns-3 c = rw (c .before .enum-told3 .given .1, c .or-of .ensures)
 
 -- src/kind.rt:133:1
 returns-4 : tie.Need-returns-4
-returns-4 c = ?
+returns-4 c = rw (c .before .enum-told4 .given .1, c .xor-of .ensures)
 
 pub join-of-spec : {M : Type 1} → statement M
 join-of-spec =

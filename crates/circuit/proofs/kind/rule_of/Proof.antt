@@ -1,3 +1,8 @@
+use native.Mathlib.Omega.{arith}
+use Prim.Native.Nat.{_≤_}
+use mathlib.Core.Path.{sym}
+use Rattle.circuit.specs.Kind.{ruleOf}
+use Rattle.circuit.proofs.KindLaws.{rule-one-pin, rule-and, rule-or, rule-xor, rule-none}
 use Rattle.circuit.proofs.kind.rule_of.Statement.{statement}
 use Rattle.circuit.proofs.kind.rule_of.Tie as tie
 use Rattle.circuit.proofs.kind.rule_of.Reads as reads
@@ -5,27 +10,42 @@ use Rattle.circuit.proofs.kind.rule_of.Lts as lts
 
 -- src/kind.rt:32:1
 returns : tie.Need-returns
-returns c = ?
+unfolding ruleOf
+returns c = rw (c .match .keys1)
 
 -- src/kind.rt:32:1
 returns-2 : tie.Need-returns-2
-returns-2 c = ?
+returns-2 c = let k = c .before .before .args .kind in
+    let h : 1 ≤ k = omega arith in
+    let g : k ≤ 4 = omega arith in
+    sym (rule-one-pin k h g)
 
 -- src/kind.rt:32:1
 returns-3 : tie.Need-returns-3
-returns-3 c = ?
+returns-3 c = let k = c .before .before .before .args .kind in
+    let h : 5 ≤ k = omega arith in
+    let g : k ≤ 6 = omega arith in
+    sym (rule-and k h g)
 
 -- src/kind.rt:32:1
 returns-4 : tie.Need-returns-4
-returns-4 c = ?
+returns-4 c = let k = c .before .before .before .before .args .kind in
+    let h : 7 ≤ k = omega arith in
+    let g : k ≤ 8 = omega arith in
+    sym (rule-or k h g)
 
 -- src/kind.rt:32:1
 returns-5 : tie.Need-returns-5
-returns-5 c = ?
+returns-5 c = let k = c .before .before .before .before .before .args .kind in
+    let h : 9 ≤ k = omega arith in
+    let g : k ≤ 10 = omega arith in
+    sym (rule-xor k h g)
 
 -- src/kind.rt:32:1
 returns-6 : tie.Need-returns-6
-returns-6 c = ?
+returns-6 c = let k = c .before .before .before .before .before .args .kind in
+    let h : 11 ≤ k = omega arith in
+    sym (rule-none k h)
 
 pub rule-of-spec : {M : Type 1} → statement M
 rule-of-spec = tie.close (tie.spec returns returns-2 returns-3 returns-4 returns-5 returns-6)

@@ -1,3 +1,7 @@
+use mathlib.Core.Path.{sym}
+use Prim.Native.Nat.{_≤_}
+use native.Mathlib.Omega.{arith}
+use Rattle.circuit.proofs.ValueLaws.{xor-unknown}
 use borrow.Author.Needs.{needs}
 use Rattle.circuit.proofs.kind.xor_of.Statement.{statement}
 use Rattle.circuit.proofs.kind.xor_of.Tie as tie
@@ -19,7 +23,9 @@ returns-2 c = search needs
 
 -- src/kind.rt:110:1
 returns-3 : tie.Need-returns-3
-returns-3 c = ?
+returns-3 c = let a = c .before .args in
+    let h : 2 ≤ a .v = omega arith in
+    sym (xor-unknown (a .v) (a .w) h)
 
 pub xor-of-spec : {M : Type 1} → statement M
 xor-of-spec = tie.close (tie.spec negation-requires returns returns-2 returns-3)

@@ -1,3 +1,5 @@
+use borrow.Author.Tests.{le-leb, lt-leb}
+use Rattle.circuit.specs.Netlist.{countFits}
 use borrow.Author.Needs.{needs}
 use Rattle.circuit.proofs.netlist.count_fits.Statement.{statement}
 use Rattle.circuit.proofs.netlist.count_fits.Tie as tie
@@ -21,11 +23,13 @@ length-of-requires c κs = search needs
 
 -- src/netlist.rt:96:1
 returns : tie.Need-returns
-returns c = ?
+unfolding countFits
+returns c = rw (← c .before .before .before .before .before .kind-of .ensures, ← c .before .before .before .before .rule-of .ensures, ← c .before .before .before .length-of .ensures, le-leb _ _ (c .before .if1 .taken))
 
 -- src/netlist.rt:96:1
 returns-2 : tie.Need-returns-2
-returns-2 c = ?
+unfolding countFits
+returns-2 c = rw (← c .before .before .before .before .kind-of .ensures, ← c .before .before .before .rule-of .ensures, ← c .before .before .length-of .ensures, lt-leb _ _ (c .if1 .left))
 
 pub count-fits-spec : {M : Type 1} → statement M
 count-fits-spec =

@@ -1,3 +1,14 @@
+use Rattle.circuit.proofs.ListLaws.{every-more, every-fails, every-done}
+use borrow.Author.Tests.{le-leb, lt-leb}
+use Rattle.circuit.specs.Netlist.{kindKnown}
+use denote.Ref.{now}
+use Prim.Native.Nat.{ℕ, _≤_, _-_}
+use mathlib.Core.Bool.{true}
+use mathlib.Core.Path.{_≡_, refl, sym, _∙_}
+use native.Mathlib.Omega.{arith}
+use borrow.Author.Needs.{needs}
+use Rattle.circuit.specs.Lists.{every}
+use Rattle.circuit.proofs.ListLaws.{every-more, every-fails}
 use Rattle.circuit.proofs.netlist.kinds_known.Statement.{statement}
 use Rattle.circuit.proofs.netlist.kinds_known.Tie as tie
 use Rattle.circuit.proofs.netlist.kinds_known.Reads as reads
@@ -5,38 +16,46 @@ use Rattle.circuit.proofs.netlist.kinds_known.Lts as lts
 use Rattle.circuit.proofs.netlist.kind_of.Reads as kind-of-reads
 
 abbrev Inv-loop : tie.InvT-loop
-Inv-loop netlist n node₀ node = ?
+Inv-loop netlist n node₀ node = (node ≤ n) × (every (kindKnown netlist) node ≡ true)
 
 abbrev μ-loop : tie.MeasureT-loop
-μ-loop netlist n node₀ node = ?
+μ-loop netlist n node₀ node = n - node
 
 -- src/netlist.rt:70:5
 loop-holds : tie.Need-loop-holds Inv-loop μ-loop
-loop-holds c = ?
+unfolding every
+loop-holds c = (omega arith, refl)
 
 -- src/netlist.rt:71:12
 kind-of-requires : tie.Need-kind-of-requires Inv-loop μ-loop
-kind-of-requires c κs = ?
+kind-of-requires c κs = search needs
 
 -- src/netlist.rt:72:13
 returns : tie.Need-returns Inv-loop μ-loop
-returns c = ?
+unfolding kindKnown
+returns c = let s = now (c .before .before .before .before .before .args .netlist) in
+    let i = c .before .before .before .loop .node in
+    sym (every-fails (kindKnown s) _ i (c .before .before .loop-test .taken) (rw (← c .before .kind-of .ensures) (lt-leb _ _ (c .if1 .taken))))
 
 -- src/netlist.rt:74:9
 add-node : tie.Need-add-node Inv-loop μ-loop
-add-node c = ?
+add-node c = omega arith
 
 -- src/netlist.rt:70:5
 loop-less : tie.Need-loop-less Inv-loop μ-loop
-loop-less c = ?
+loop-less c = omega arith
 
 -- src/netlist.rt:70:5
 loop-again : tie.Need-loop-again Inv-loop μ-loop
-loop-again c = ?
+unfolding kindKnown
+loop-again c = let s = now (c .before .before .before .before .before .args .netlist) in
+    let l = c .before .before .before .loop in
+    (omega arith, every-more (kindKnown s) (l .node) (l .inv .1) (rw (← c .before .kind-of .ensures) (le-leb _ _ (c .if1 .left))))
 
 -- src/netlist.rt:66:1
 returns-2 : tie.Need-returns-2 Inv-loop μ-loop
-returns-2 c = ?
+returns-2 c = let l = c .before .loop in
+    every-done (kindKnown (now (c .before .before .before .args .netlist))) (l .node) _ (l .inv .1) (l .inv .0) (c .loop-test .left)
 
 pub kinds-known-spec : {M : Type 1} → statement M
 kinds-known-spec =

@@ -1,3 +1,17 @@
+use lib.Dec.{eqb}
+use mathlib.Core.Path.{_≡_, refl, sym, _∙_, ap}
+use native.Mathlib.Numerals.{add-one}
+use Rattle.circuit.proofs.ListLaws.{every-more, every-fails, every-done}
+use borrow.Author.Tests.{eq-eqb, ne-eqb}
+use Rattle.circuit.specs.Netlist.{pairJoined, pairStart}
+use denote.Ref.{now}
+use Prim.Native.Nat.{ℕ, _≤_, _-_}
+use mathlib.Core.Bool.{true}
+use mathlib.Core.Path.{_≡_, refl, sym, _∙_}
+use native.Mathlib.Omega.{arith}
+use borrow.Author.Needs.{needs}
+use Rattle.circuit.specs.Lists.{every}
+use Rattle.circuit.proofs.ListLaws.{every-more, every-fails}
 use Rattle.circuit.proofs.netlist.pairs_joined.Statement.{statement}
 use Rattle.circuit.proofs.netlist.pairs_joined.Tie as tie
 use Rattle.circuit.proofs.netlist.pairs_joined.Reads as reads
@@ -6,54 +20,64 @@ use Rattle.circuit.proofs.netlist.length_of.Reads as length-of-reads
 use Rattle.circuit.proofs.netlist.offset_of.Reads as offset-of-reads
 
 abbrev Inv-loop : tie.InvT-loop
-Inv-loop netlist n p start₀ node₀ start node = ?
+Inv-loop netlist n p start₀ node₀ start node = (node ≤ n) × (every (pairJoined netlist) node ≡ true) × (start ≡ pairStart netlist node)
 
 abbrev μ-loop : tie.MeasureT-loop
-μ-loop netlist n p start₀ node₀ start node = ?
+μ-loop netlist n p start₀ node₀ start node = n - node
 
 -- src/netlist.rt:85:5
 loop-holds : tie.Need-loop-holds Inv-loop μ-loop
-loop-holds c = ?
+unfolding every pairStart
+loop-holds c = (omega arith, refl, refl)
 
 -- src/netlist.rt:86:22
 offset-of-requires : tie.Need-offset-of-requires Inv-loop μ-loop
-offset-of-requires c κs = ?
+offset-of-requires c κs = search needs
 
 -- src/netlist.rt:86:22
 cast-offset : tie.Need-cast-offset Inv-loop μ-loop
-cast-offset c = ?
+cast-offset c = search needs
 
 -- src/netlist.rt:88:13
 returns : tie.Need-returns Inv-loop μ-loop
-returns c = ?
+unfolding pairJoined
+returns c = let s = now (c .before .before .before .before .before .args .netlist) in
+    let l = c .before .before .before .loop in
+    rw (every-fails (pairJoined s) _ (l .node) (c .before .before .loop-test .taken) (rw (← c .before .offset-of .ensures, ← (l .inv .2)) (ne-eqb _ _ (c .if1 .taken))))
 
 -- src/netlist.rt:90:26
 length-of-requires : tie.Need-length-of-requires Inv-loop μ-loop
-length-of-requires c κs = ?
+length-of-requires c κs = search needs
 
 -- src/netlist.rt:90:26
 cast-start : tie.Need-cast-start Inv-loop μ-loop
-cast-start c = ?
+cast-start c = search needs
 
 -- src/netlist.rt:90:17
 add-start : tie.Need-add-start Inv-loop μ-loop
-add-start c = ?
+add-start c = search needs
 
 -- src/netlist.rt:91:9
 add-node : tie.Need-add-node Inv-loop μ-loop
-add-node c = ?
+add-node c = omega arith
 
 -- src/netlist.rt:85:5
 loop-less : tie.Need-loop-less Inv-loop μ-loop
-loop-less c = ?
+loop-less c = omega arith
 
 -- src/netlist.rt:85:5
 loop-again : tie.Need-loop-again Inv-loop μ-loop
-loop-again c = ?
+unfolding pairJoined pairStart
+loop-again c = let s = now (c .before .before .before .before .before .before .args .netlist) in
+    let l = c .before .before .before .before .loop in
+    (omega arith, every-more (pairJoined s) (l .node) (l .inv .1) (rw (← c .before .before .offset-of .ensures, ← (l .inv .2)) (eq-eqb _ _ (c .before .if1 .left))), rw (add-one, c .before .before .offset-of .ensures, c .length-of .ensures))
 
 -- src/netlist.rt:80:1
 returns-2 : tie.Need-returns-2 Inv-loop μ-loop
-returns-2 c = ?
+returns-2 c = let a = c .before .before .before .args in
+    let l = c .before .loop in
+    let h : l .node ≡ a .n = omega arith in
+    rw (← every-done (pairJoined (now (a .netlist))) (l .node) (a .n) (l .inv .1) (l .inv .0) (c .loop-test .left), ← h, ← (l .inv .2))
 
 pub pairs-joined-spec : {M : Type 1} → statement M
 pairs-joined-spec =

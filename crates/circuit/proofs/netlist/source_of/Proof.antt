@@ -1,3 +1,4 @@
+use Rattle.circuit.specs.Netlist.{sourceOf}
 use borrow.Author.Needs.{needs}
 use Rattle.circuit.proofs.netlist.source_of.Statement.{statement}
 use Rattle.circuit.proofs.netlist.source_of.Tie as tie
@@ -49,7 +50,8 @@ u16-at-requires c κs = search needs
 
 -- src/netlist.rt:52:1
 returns : tie.Need-returns
-returns c = ?
+unfolding sourceOf
+returns c = cc
 
 pub source-of-spec : {M : Type 1} → statement M
 source-of-spec =

@@ -1,3 +1,13 @@
+use borrow.Author.Tests.{not-true, not-false}
+use Rattle.circuit.specs.Netlist.{sourceAllowed, sourcesAllowed}
+use denote.Ref.{now}
+use Prim.Native.Nat.{ℕ, _≤_, _-_}
+use mathlib.Core.Bool.{true}
+use mathlib.Core.Path.{_≡_, refl, sym, _∙_}
+use native.Mathlib.Omega.{arith}
+use borrow.Author.Needs.{needs}
+use Rattle.circuit.specs.Lists.{every}
+use Rattle.circuit.proofs.ListLaws.{every-more, every-fails, every-done}
 use Rattle.circuit.proofs.netlist.sources_allowed.Statement.{statement}
 use Rattle.circuit.proofs.netlist.sources_allowed.Tie as tie
 use Rattle.circuit.proofs.netlist.sources_allowed.Reads as reads
@@ -6,42 +16,50 @@ use Rattle.circuit.proofs.netlist.length_of.Reads as length-of-reads
 use Rattle.circuit.proofs.netlist.source_allowed.Reads as source-allowed-reads
 
 abbrev Inv-loop : tie.InvT-loop
-Inv-loop netlist n node count pin₀ pin = ?
+Inv-loop netlist n node count pin₀ pin = (pin ≤ count) × (every (sourceAllowed netlist node) pin ≡ true)
 
 abbrev μ-loop : tie.MeasureT-loop
-μ-loop netlist n node count pin₀ pin = ?
+μ-loop netlist n node count pin₀ pin = count - pin
 
 -- src/netlist.rt:131:9
 length-of-requires : tie.Need-length-of-requires Inv-loop μ-loop
-length-of-requires c κs = ?
+length-of-requires c κs = search needs
 
 -- src/netlist.rt:133:5
 loop-holds : tie.Need-loop-holds Inv-loop μ-loop
-loop-holds c = ?
+unfolding every
+loop-holds c = (omega arith, refl)
 
 -- src/netlist.rt:134:13
 source-allowed-requires : tie.Need-source-allowed-requires Inv-loop μ-loop
-source-allowed-requires c κs = ?
+source-allowed-requires c κs = c .before .before .before .before .pre
 
 -- src/netlist.rt:135:13
 returns : tie.Need-returns Inv-loop μ-loop
-returns c = ?
+unfolding sourcesAllowed
+returns c = let a = c .before .before .before .before .before .before .args in
+    rw (← c .before .before .before .before .length-of .ensures) (sym (every-fails (sourceAllowed (now (a .netlist)) (a .node)) _ (c .before .before .before .loop .pin) (c .before .before .loop-test .taken) (sym (c .before .source-allowed .ensures) ∙ not-true _ (c .if1 .taken))))
 
 -- src/netlist.rt:137:9
 add-pin : tie.Need-add-pin Inv-loop μ-loop
-add-pin c = ?
+add-pin c = omega arith
 
 -- src/netlist.rt:133:5
 loop-less : tie.Need-loop-less Inv-loop μ-loop
-loop-less c = ?
+loop-less c = omega arith
 
 -- src/netlist.rt:133:5
 loop-again : tie.Need-loop-again Inv-loop μ-loop
-loop-again c = ?
+loop-again c = let a = c .before .before .before .before .before .before .args in
+    let l = c .before .before .before .loop in
+    (omega arith, every-more (sourceAllowed (now (a .netlist)) (a .node)) (l .pin) (l .inv .1) (sym (c .before .source-allowed .ensures) ∙ not-false _ (c .if1 .left)))
 
 -- src/netlist.rt:127:1
 returns-2 : tie.Need-returns-2 Inv-loop μ-loop
-returns-2 c = ?
+unfolding sourcesAllowed
+returns-2 c = let a = c .before .before .before .before .args in
+    let l = c .before .loop in
+    rw (← c .before .before .length-of .ensures) (every-done (sourceAllowed (now (a .netlist)) (a .node)) (l .pin) _ (l .inv .1) (l .inv .0) (c .loop-test .left))
 
 pub sources-allowed-spec : {M : Type 1} → statement M
 sources-allowed-spec =

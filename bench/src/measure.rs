@@ -1,0 +1,55 @@
+//! Times of two ways to do the same work, taken in turn.
+
+use std::time::Instant;
+
+/// Repetitions of each way. The two take turns, so that both see the same
+/// load of the machine, and the median leaves out the turns it disturbed.
+pub const REPETITIONS: usize = 101;
+
+/// The shortest turn, in seconds: far above what the clock can tell apart.
+const SHORTEST_TURN: f64 = 0.002;
+
+/// The time of one call in the library and in the model, in seconds.
+pub struct Pair {
+    pub library: f64,
+    pub model: f64,
+}
+
+impl Pair {
+    pub fn ratio(&self) -> f64 {
+        self.library / self.model
+    }
+}
+
+/// Times both ways; each does `calls` calls when it is run.
+pub fn compare(mut library: impl FnMut(), mut model: impl FnMut(), calls: usize) -> Pair {
+    // Warms both up, and settles how long a turn is.
+    let mut runs = 1;
+    while time(&mut model, runs).min(time(&mut library, runs)) < SHORTEST_TURN {
+        runs *= 2;
+    }
+    let mut library_times = Vec::with_capacity(REPETITIONS);
+    let mut model_times = Vec::with_capacity(REPETITIONS);
+    for _ in 0..REPETITIONS {
+        library_times.push(time(&mut library, runs));
+        model_times.push(time(&mut model, runs));
+    }
+    let all_calls = (runs * calls) as f64;
+    Pair {
+        library: median(library_times) / all_calls,
+        model: median(model_times) / all_calls,
+    }
+}
+
+fn time(work: &mut impl FnMut(), runs: usize) -> f64 {
+    let start = Instant::now();
+    for _ in 0..runs {
+        work();
+    }
+    start.elapsed().as_secs_f64()
+}
+
+fn median(mut times: Vec<f64>) -> f64 {
+    times.sort_by(f64::total_cmp);
+    times[times.len() / 2]
+}

@@ -1,0 +1,88 @@
+//! The circuits that are read and stepped.
+
+use leverpeach_tests::circuits::{calls, sound};
+use leverpeach_tests::model::{self, Stepped};
+use leverpeach_tests::native::{self, FaultBytes};
+use leverpeach_tests::random::Random;
+use std::hint::black_box;
+
+/// Nodes of all circuits of one size together. It is the same for each size,
+/// so that caches and branch prediction help small circuits no more than large
+/// ones.
+const NODES_IN_ALL: usize = 65_536;
+
+/// A netlist, a fault of it, and the simulator's slices.
+#[derive(PartialEq)]
+struct Circuit {
+    netlist: Vec<u8>,
+    fault: FaultBytes,
+    first: Vec<u8>,
+    second: Vec<u8>,
+}
+
+/// Circuits of one size, the same ones each time they are made.
+#[derive(PartialEq)]
+pub struct Work {
+    circuits: Vec<Circuit>,
+}
+
+impl Work {
+    pub fn new(nodes: usize, pins: usize) -> Self {
+        let mut random = Random::new(nodes as u64);
+        let circuits = (0..NODES_IN_ALL / nodes).map(|_| {
+            let draft = sound::of_size(&mut random, nodes, pins);
+            Circuit {
+                netlist: draft.to_bytes(),
+                fault: calls::fault(&mut random, &draft),
+                first: calls::first(&mut random, &draft),
+                second: vec![0; nodes],
+            }
+        });
+        Work {
+            circuits: circuits.collect(),
+        }
+    }
+
+    /// How many circuits there are, each read or stepped once in a run.
+    pub fn circuit_count(&self) -> usize {
+        self.circuits.len()
+    }
+
+    pub fn read_with_library(&self) {
+        for circuit in &self.circuits {
+            black_box(native::read(black_box(&circuit.netlist)));
+        }
+    }
+
+    pub fn read_with_model(&self) {
+        for circuit in &self.circuits {
+            black_box(model::read(black_box(&circuit.netlist)));
+        }
+    }
+
+    pub fn simulate_with_library(&mut self) {
+        for circuit in &mut self.circuits {
+            let Circuit {
+                netlist,
+                fault,
+                first,
+                second,
+            } = circuit;
+            let answer = native::simulate(black_box(netlist), *fault, first, second);
+            assert_eq!(answer, 0);
+        }
+    }
+
+    pub fn simulate_with_model(&mut self) {
+        for circuit in &mut self.circuits {
+            let Circuit {
+                netlist,
+                fault,
+                first,
+                second,
+            } = circuit;
+            let stepped = model::simulate(black_box(netlist), fault.meaning(), first, second);
+            assert_eq!(stepped, Stepped::Done);
+        }
+    }
+}

@@ -1,0 +1,33 @@
+-- Laws of the reader's answer, and of the circuit that a netlist's bytes describe.
+use mathlib.Core.List.{List}
+use mathlib.Core.Option.{Option, none, some}
+use mathlib.Core.Path.{_≡_, ap, sym}
+use Prim.Native.Nat.{_<_, ℕ}
+use lib.ListN.{length}
+use Rattle.circuit.proofs.ListLaws.{getD-build, length-build}
+use Rattle.circuit.proofs.RefusalLaws.{FirstFails, Passed, refusal-at, refusal-by}
+use Rattle.circuit.specs.Answer.{Answer, refusal, refused}
+use Rattle.circuit.specs.Lists.{at}
+use Rattle.circuit.specs.Netlist.{lengthOf, netOf, nodeCount, pinCount, pinsOf, readerTests, reading, sound, sourceOf}
+
+abbrev answerOf : List ℕ → Option ℕ → Answer
+answerOf bs r = elim r [ none ↦ sound (nodeCount bs) (pinCount bs) | some k ↦ refused k ]
+
+-- refused with k where the first test that fails has the number k
+pub read-refused : (bs : List ℕ) (k : ℕ) → FirstFails bs k readerTests → refused k ≡ reading bs
+unfolding reading
+read-refused bs k f = sym (ap (answerOf bs) (refusal-at readerTests bs k f))
+
+-- sound where all tests pass
+pub read-sound : (bs : List ℕ) → Passed readerTests bs → sound (nodeCount bs) (pinCount bs) ≡ reading bs
+unfolding reading
+read-sound bs p = sym (ap (answerOf bs) (refusal-by readerTests bs p))
+
+-- the pins of a node: how many, and which sources
+pub pins-length : (bs : List ℕ) (n : ℕ) → length (netOf bs .pins n) ≡ lengthOf bs n
+unfolding netOf pinsOf
+pins-length bs n = length-build (λ _. sourceOf bs n) (lengthOf bs n)
+
+pub pins-at : (bs : List ℕ) (n k : ℕ) → k < lengthOf bs n → at (netOf bs .pins n) k ≡ sourceOf bs n k
+unfolding netOf pinsOf
+pins-at bs n k h = getD-build (λ _. sourceOf bs n) 0 (lengthOf bs n) h

@@ -1,0 +1,81 @@
+//! Faults and slices for calls of the simulator.
+
+use super::Draft;
+use crate::model::kind;
+use crate::native::FaultBytes;
+use crate::random::Random;
+
+/// A fault that the netlist has.
+pub fn fault(random: &mut Random, draft: &Draft) -> FaultBytes {
+    let node = random.below(draft.nodes.len());
+    let pins = draft.nodes[node].sources.len();
+    let site = match random.below(pins + 1) {
+        pin if pin < pins => pin as u8,
+        _ => 255,
+    };
+    let faulted = random.between(1, 255) as u8;
+    let (node, u) = (node as u16, random.bit());
+    FaultBytes {
+        faulted,
+        node,
+        site,
+        u,
+    }
+}
+
+/// No fault, beside bytes that must not matter then.
+pub fn no_fault(random: &mut Random) -> FaultBytes {
+    FaultBytes {
+        faulted: 0,
+        node: random.pick(&[0, 1, 4_096, 65_535]),
+        site: random.pick(&[0, 1, 8, 254, 255]),
+        u: random.pick(&[0, 1, 2, 255]),
+    }
+}
+
+/// A fault that the netlist does not have, or whose u is no value.
+pub fn foreign_fault(random: &mut Random, draft: &Draft) -> FaultBytes {
+    let mut fault = fault(random, draft);
+    let nodes = draft.nodes.len() as u16;
+    let pins = draft.nodes[usize::from(fault.node)].sources.len() as u8;
+    match random.below(3) {
+        0 => fault.node = random.pick(&[nodes, nodes + 1, 4_096, 32_768, 65_535]),
+        1 => fault.site = random.pick(&[pins, pins + 1, 9, 128, 254]),
+        _ => fault.u = random.pick(&[2, 3, 128, 254, 255]),
+    }
+    fault
+}
+
+/// A first slice: values at inputs and flip-flops, anything elsewhere.
+pub fn first(random: &mut Random, draft: &Draft) -> Vec<u8> {
+    let places = draft
+        .nodes
+        .iter()
+        .map(|node| match kind::is_given(node.kind) {
+            true => random.bit(),
+            false => random.byte(),
+        });
+    places.collect()
+}
+
+/// Spoils a first slice at one place that is read, if there is one.
+pub fn spoil(random: &mut Random, draft: &Draft, first: &mut [u8]) {
+    let read = (0..first.len()).filter(|node| kind::is_given(draft.nodes[*node].kind));
+    let read: Vec<usize> = read.collect();
+    if !read.is_empty() {
+        first[random.pick(&read)] = random.pick(&[2, 3, 127, 128, 254, 255]);
+    }
+}
+
+/// A slice that is not of its right length: a byte too long or too short,
+/// empty, or of any other small length.
+pub fn resize(random: &mut Random, slice: &mut Vec<u8>) {
+    let right = slice.len();
+    let wrong = match random.below(4) {
+        0 => right - 1,
+        1 => right + 1,
+        2 => 0,
+        _ => random.pick(&[2 * right, right + 256, right + 4_096]),
+    };
+    slice.resize(wrong, 0);
+}

@@ -1,0 +1,110 @@
+//! Sound netlists at random, with a mix of kinds as in real circuits.
+
+use super::{Draft, Node};
+use crate::model::kind;
+use crate::random::Random;
+
+/// A sound netlist of this many nodes. Wide gates are rarer than narrow ones.
+pub fn random(random: &mut Random, nodes: usize) -> Draft {
+    let kinds = kinds(random, nodes);
+    let counts: Vec<usize> = kinds
+        .iter()
+        .map(|kind| match *kind {
+            kind::AND..=kind::NOR if random.chance(60) => random.between(2, 3),
+            kind::AND..=kind::NOR => random.between(2, 8),
+            kind => fewest_pins(kind),
+        })
+        .collect();
+    connect(random, &kinds, &counts)
+}
+
+/// A sound netlist of just so many nodes and pins. There must be room for the
+/// pins: about four for each node is safe from a few hundred nodes on.
+pub fn of_size(random: &mut Random, nodes: usize, pins: usize) -> Draft {
+    let kinds = kinds(random, nodes);
+    let mut counts: Vec<usize> = kinds.iter().map(|kind| fewest_pins(*kind)).collect();
+    let wide = kinds.iter().filter(|kind| is_wide(**kind)).count();
+    let mut total: usize = counts.iter().sum();
+    assert!(
+        total <= pins && pins <= total + 6 * wide,
+        "no room for {pins} pins"
+    );
+    while total < pins {
+        let node = random.below(nodes);
+        if is_wide(kinds[node]) && counts[node] < 8 {
+            counts[node] += 1;
+            total += 1;
+        }
+    }
+    connect(random, &kinds, &counts)
+}
+
+/// Kinds for all nodes. The first is an input or a flip-flop, since nothing
+/// else can stand without a smaller source.
+fn kinds(random: &mut Random, nodes: usize) -> Vec<u8> {
+    let first = random.pick(&[kind::INPUT, kind::FLIP_FLOP]);
+    let mut kinds = vec![first];
+    kinds.extend((1..nodes).map(|_| kind_of_mix(random)));
+    kinds
+}
+
+fn kind_of_mix(random: &mut Random) -> u8 {
+    match random.below(100) {
+        0..=9 => kind::INPUT,
+        10..=16 => kind::OUTPUT,
+        17..=27 => kind::FLIP_FLOP,
+        28..=30 => kind::BUFFER,
+        31..=38 => kind::NOT,
+        39..=52 => kind::AND,
+        53..=66 => kind::NAND,
+        67..=79 => kind::OR,
+        80..=92 => kind::NOR,
+        93..=96 => kind::XOR,
+        _ => kind::XNOR,
+    }
+}
+
+fn fewest_pins(kind: u8) -> usize {
+    match kind {
+        kind::INPUT => 0,
+        kind::OUTPUT..=kind::NOT => 1,
+        _ => 2,
+    }
+}
+
+fn is_wide(kind: u8) -> bool {
+    (kind::AND..=kind::NOR).contains(&kind)
+}
+
+fn connect(random: &mut Random, kinds: &[u8], counts: &[usize]) -> Draft {
+    let nodes = kinds.iter().zip(counts).enumerate();
+    let nodes = nodes.map(|(node, (kind, count))| Node {
+        kind: *kind,
+        sources: (0..*count).map(|_| source(random, kinds, node)).collect(),
+    });
+    Draft {
+        nodes: nodes.collect(),
+    }
+}
+
+/// An allowed source for a pin of the node: near it as often as anywhere, so
+/// that circuits get both deep and wide.
+fn source(random: &mut Random, kinds: &[u8], node: usize) -> u16 {
+    let limit = match kinds[node] {
+        kind::FLIP_FLOP => kinds.len(),
+        _ => node,
+    };
+    for _ in 0..16 {
+        let nearest = if random.bit() == 0 {
+            0
+        } else {
+            limit.saturating_sub(16)
+        };
+        let source = random.between(nearest, limit - 1);
+        if kinds[source] != kind::OUTPUT {
+            return source as u16;
+        }
+    }
+    // Among many outputs the draws may all fail; the first node never is one.
+    0
+}

@@ -1,0 +1,13 @@
+//! The kit's library held against a second reading of the paper.
+//!
+//! [`model`] is that reading, written without a look at the library's code.
+//! [`native`] is the library, reached through its C interface. [`compare`]
+//! gives both the same call and looks at every answer and every lent byte;
+//! [`circuits`] and [`random`] make the calls, [`cases`] counts them.
+
+pub mod cases;
+pub mod circuits;
+pub mod compare;
+pub mod model;
+pub mod native;
+pub mod random;

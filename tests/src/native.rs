@@ -1,0 +1,105 @@
+//! The kit's library through its C interface.
+
+use crate::model::{Fault, Reading, Site, Stepped};
+
+extern "C" {
+    fn leverpeach_read(netlist_ptr: *const u8, netlist_len: usize) -> u64;
+
+    fn leverpeach_simulate(
+        netlist_ptr: *const u8,
+        netlist_len: usize,
+        faulted: u8,
+        node: u16,
+        site: u8,
+        u: u8,
+        first_ptr: *mut u8,
+        first_len: usize,
+        second_ptr: *mut u8,
+        second_len: usize,
+    ) -> u64;
+}
+
+/// A fault as the C interface takes it, byte for byte.
+#[derive(Clone, Copy, Debug, PartialEq, Eq)]
+pub struct FaultBytes {
+    pub faulted: u8,
+    pub node: u16,
+    pub site: u8,
+    pub u: u8,
+}
+
+impl FaultBytes {
+    pub const NONE: FaultBytes = FaultBytes {
+        faulted: 0,
+        node: 0,
+        site: 0,
+        u: 0,
+    };
+
+    pub fn new(node: u16, site: u8, u: u8) -> Self {
+        FaultBytes {
+            faulted: 1,
+            node,
+            site,
+            u,
+        }
+    }
+
+    /// What the bytes mean: with `faulted` 0 there is no fault, whatever the
+    /// others say.
+    pub fn meaning(&self) -> Option<Fault> {
+        (self.faulted != 0).then_some(Fault {
+            node: self.node,
+            site: Site::from_byte(self.site),
+            u: self.u,
+        })
+    }
+}
+
+/// The library's reader.
+pub fn read(netlist: &[u8]) -> u64 {
+    // SAFETY: pointer and length are those of a live slice, which the library
+    // only reads.
+    unsafe { leverpeach_read(netlist.as_ptr(), netlist.len()) }
+}
+
+/// The library's simulator.
+pub fn simulate(netlist: &[u8], fault: FaultBytes, first: &mut [u8], second: &mut [u8]) -> u64 {
+    // SAFETY: pointers and lengths are those of live slices; the two that the
+    // library writes are lent mutably and lie apart.
+    unsafe {
+        leverpeach_simulate(
+            netlist.as_ptr(),
+            netlist.len(),
+            fault.faulted,
+            fault.node,
+            fault.site,
+            fault.u,
+            first.as_mut_ptr(),
+            first.len(),
+            second.as_mut_ptr(),
+            second.len(),
+        )
+    }
+}
+
+/// The number by which the C interface gives a reader's answer.
+pub fn reading_number(reading: Reading) -> u64 {
+    match reading {
+        Reading::Sound { nodes, pins } => sound_number(nodes.into(), pins.into()),
+        Reading::Refused(number) => number.into(),
+    }
+}
+
+/// The number for a sound netlist with these counts.
+pub fn sound_number(nodes: usize, pins: usize) -> u64 {
+    (1 << 32) + 65_536 * nodes as u64 + pins as u64
+}
+
+/// The number by which the C interface gives a simulator's answer.
+pub fn stepped_number(stepped: Stepped) -> u64 {
+    match stepped {
+        Stepped::Done => 0,
+        Stepped::Refused(number) => number.into(),
+    }
+}
