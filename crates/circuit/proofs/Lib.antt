@@ -9,4 +9,5 @@ pub mod SoundLaws
 pub mod GateLaws
 pub mod ClockLaws
 pub mod RunLaws
+pub mod SimulatorLaws
 pub mod Vectors
