@@ -1,33 +1,54 @@
 -- Laws of the clock step: the seen values are the solution of the circuit's equations.
 use mathlib.Core.Bool.{Bool, _||_, cond, false, true, true≢false}
 use mathlib.Core.List.{List, _++_}
+use mathlib.Core.Logic.{_⊎_, inl, inr}
 use mathlib.Core.Path.{_∙_, _≡_, ap, refl, sym}
-use Prim.Native.Nat.{_<_, suc, zero, ℕ}
+use Prim.Native.Nat.{_<_, _≤_, suc, zero, ℕ}
 use native.Mathlib.Omega.{arith}
-use lib.Dec.{eqb}
 use lib.ListN.{drop, length}
-use borrow.Author.Tests.{eq-eqb, eqb-false, eqb-true}
+use borrow.Author.Tests.{eqb-true}
 use Rattle.circuit.proofs.ListLaws.{Below, below-table, build-agree, build-read, build-rest, build-same, getD-build, indexed-agree, length-build}
+use Rattle.circuit.proofs.ValueLaws.{stuck-free, stuck-known}
 use Rattle.circuit.proofs.SoundLaws.{Facts, facts}
 use Rattle.circuit.specs.Clock.{latchedBy, latchedList, pinValues, seenBy, seenList}
 use Rattle.circuit.specs.Fault.{StuckLines}
-use Rattle.circuit.specs.Kind.{gate, isFlipFlop, isGiven}
-use Rattle.circuit.specs.Lists.{at, build, table}
+use Rattle.circuit.specs.Kind.{gate, isFlipFlop, isGiven, isInput}
+use Rattle.circuit.specs.Lists.{at, build}
 use Rattle.circuit.specs.Netlist.{Net, kindOf, lengthOf, netOf, nodeCount, pinsOf, reading, sound, sourceOf}
 use Rattle.circuit.specs.Value.{stuckOr}
+
+module _ (c : Net) (s : StuckLines) (given v : ℕ → ℕ) (n : ℕ) where
+  -- a faulted node is seen at its stuck value
+  pub seenBy-stuck : s .node n < 2 → seenBy c s given v n ≡ s .node n
+  unfolding seenBy
+  seenBy-stuck h = stuck-known (s .node n) _ h
+
+  -- another input or flip-flop at what the clock step is given there
+  pub seenBy-given : 2 ≤ s .node n → isGiven (c .kind n) ≡ true → seenBy c s given v n ≡ given n
+  unfolding seenBy
+  seenBy-given h e = stuck-free (s .node n) _ h ∙ rw e
+
+  -- any other node at its gate's function of what its pins read
+  pub seenBy-gate : 2 ≤ s .node n → isGiven (c .kind n) ≡ false → seenBy c s given v n ≡ gate (c .kind n) (pinValues c s v n)
+  unfolding seenBy
+  seenBy-gate h e = stuck-free (s .node n) _ h ∙ rw e
 
 -- a circuit without loops but through flip-flops: sources are nodes, and a gate's or output's sources have smaller numbers
 pub record Ordered (c : Net) : Type 0 where
   pub within : (n : ℕ) → n < c .size → Below (c .size) (c .pins n)
   pub earlier : (n : ℕ) → n < c .size → isGiven (c .kind n) ≡ false → Below n (c .pins n)
 
--- a node that is not given is no flip-flop
-pub not-given : (k : ℕ) → isGiven k ≡ false → k ≡ 2 → ⊥
-not-given k e q = go (eqb k 0) e
+-- a node that is given is an input or a flip-flop
+pub given-kind : (k : ℕ) → isGiven k ≡ true → (k ≡ 0) ⊎ (k ≡ 2)
+given-kind k e = go (isInput k) refl e
   where
-    go : (b : Bool) → (b || eqb k 2) ≡ false → ⊥
-    go true e = true≢false e
-    go false e = eqb-false k 2 e q
+    go : (b : Bool) → isInput k ≡ b → (b || isFlipFlop k) ≡ true → (k ≡ 0) ⊎ (k ≡ 2)
+    go true q e = inl (eqb-true k 0 q)
+    go false q e = inr (eqb-true k 2 e)
+
+-- and no other node is a flip-flop
+pub not-given : (k : ℕ) → isGiven k ≡ false → k ≡ 2 → ⊥
+not-given k e q = true≢false (rw q at e)
 
 pub sound-ordered : (bs : List ℕ) (n p : ℕ) → reading bs ≡ sound n p → Ordered (netOf bs)
 unfolding netOf pinsOf

@@ -3,9 +3,12 @@ pub mod BoolLaws
 pub mod ListLaws
 pub mod ValueLaws
 pub mod KindLaws
+pub mod GateLaws
 pub mod RefusalLaws
 pub mod NetlistLaws
 pub mod SoundLaws
-pub mod ClockLaws
 pub mod PinLaws
-pub mod StepLaws
+pub mod ClockLaws
+pub mod RunLaws
+pub mod SimulatorLaws
+pub mod Vectors

@@ -2,7 +2,7 @@
 use mathlib.Core.Bool.{Bool, _&&_, cond, false, not, true}
 use mathlib.Core.List.{List}
 use mathlib.Core.Option.{Option, none, some}
-use mathlib.Core.Path.{_∙_, _≡_, ap, refl, sym}
+use mathlib.Core.Path.{_∙_, _≡_, refl, sym}
 use Prim.Native.Nat.{_*_, _+_, _-_, _<_, _≤_, suc, zero, ℕ}
 use native.Mathlib.Numerals.{add-one}
 use native.Mathlib.Omega.{arith}
@@ -11,8 +11,9 @@ use lib.ListN.{length}
 use borrow.Author.Tests.{eqb-false, eqb-true, eq-eqb, le-leb, leb-true, lt-ltb, ltb-true, ne-eqb, not-true}
 use Rattle.circuit.proofs.BoolLaws.{and-left, and-right}
 use Rattle.circuit.proofs.ListLaws.{every-at, every-by}
-use Rattle.circuit.proofs.RefusalLaws.{FirstFails, NoneSmaller, Passed, refusal-by, refusal-none, refusal-smallest, refusal-some}
-use Rattle.circuit.specs.Answer.{refusal, refused}
+use Rattle.circuit.proofs.NetlistLaws.{read-sound}
+use Rattle.circuit.proofs.RefusalLaws.{FirstFails, NoneSmaller, Passed, refusal-none, refusal-smallest, refusal-some}
+use Rattle.circuit.specs.Answer.{answered, refusal, refused}
 use Rattle.circuit.specs.Kind.{isFlipFlop, isOutput, ruleOf}
 use Rattle.circuit.specs.Lists.{every}
 use Rattle.circuit.specs.Netlist.{countFits, kindKnown, kindOf, lengthOf, netOf, nodeCount, offsetOf, pairJoined, pairStart, pinCount, readerTests, reading, sizesAllowed, sound, sourceAllowed, sourceOf, sourcesAllowed}
@@ -138,6 +139,16 @@ sound-passed bs n p e = go (refusal readerTests bs) refl e
     go none q e = (refusal-none readerTests bs q, cc, cc)
     go (some k) q e = absurd (let z : _≡_ {A = ℕ} 0 1 = cc in omega arith)
 
+-- the reader answers nothing but sound or a refusal
+pub answered-sound : (bs vs : List ℕ) → reading bs ≡ answered vs → reading bs ≡ sound (nodeCount bs) (pinCount bs)
+unfolding reading
+answered-sound bs vs e = go (refusal readerTests bs) e
+  where
+    go : (r : Option ℕ) → elim r [ none ↦ sound (nodeCount bs) (pinCount bs) | some k ↦ refused k ] ≡ answered vs
+        → elim r [ none ↦ sound (nodeCount bs) (pinCount bs) | some k ↦ refused k ] ≡ sound (nodeCount bs) (pinCount bs)
+    go none e = refl
+    go (some k) e = absurd (let z : _≡_ {A = ℕ} 0 1 = cc in omega arith)
+
 -- THE law of a sound netlist
 pub facts : (bs : List ℕ) (n p : ℕ) → reading bs ≡ sound n p → Facts bs n p
 facts bs n p e =
@@ -221,11 +232,9 @@ module _ (bs : List ℕ) (f : Facts bs (nodeCount bs) (pinCount bs)) where
 
 -- and nothing else is asked of a netlist
 pub facts-sound : {bs : List ℕ} {n p : ℕ} → Facts bs n p → reading bs ≡ sound n p
-unfolding reading
 facts-sound {bs} {n} {p} f =
     let g : Facts bs (nodeCount bs) (pinCount bs) = rw (f .nodes, f .pins) at f in
-    rw (f .nodes, f .pins)
-    (ap (λ (r : Option ℕ). elim r [ none ↦ sound (nodeCount bs) (pinCount bs) | some k ↦ refused k ]) (refusal-by readerTests bs (facts-passed bs g)))
+    rw (f .nodes, f .pins) (sym (read-sound bs (facts-passed bs g)))
 
 -- the reader refuses with k where the first test that fails has the number k
 pub refused-first : (bs : List ℕ) (k : ℕ) → reading bs ≡ refused k → FirstFails bs k readerTests

@@ -15,17 +15,17 @@ rule l m g i = record { least = l; most = m; gate = g; inverted = i }
 -- the fewest pins, the most pins, the function of the pins, and whether its value is inverted
 abbrev pub rules : List Rule
 rules =
-    rule 0 0 Wire false -- 0 input
-    ∷ rule 1 1 Wire false -- 1 output
-    ∷ rule 1 1 Wire false -- 2 flip-flop
-    ∷ rule 1 1 Wire false -- 3 buffer
-    ∷ rule 1 1 Wire true -- 4 NOT
-    ∷ rule 2 8 And false -- 5 AND
-    ∷ rule 2 8 And true -- 6 NAND
-    ∷ rule 2 8 Or false -- 7 OR
-    ∷ rule 2 8 Or true -- 8 NOR
-    ∷ rule 2 2 Xor false -- 9 XOR
-    ∷ rule 2 2 Xor true -- 10 XNOR
+    rule 0 0 Wire false  -- 0 input
+    ∷ rule 1 1 Wire false  -- 1 output
+    ∷ rule 1 1 Wire false  -- 2 flip-flop
+    ∷ rule 1 1 Wire false  -- 3 buffer
+    ∷ rule 1 1 Wire true  -- 4 NOT
+    ∷ rule 2 8 And false  -- 5 AND
+    ∷ rule 2 8 And true  -- 6 NAND
+    ∷ rule 2 8 Or false  -- 7 OR
+    ∷ rule 2 8 Or true  -- 8 NOR
+    ∷ rule 2 2 Xor false  -- 9 XOR
+    ∷ rule 2 2 Xor true  -- 10 XNOR
     ∷ []
 
 -- a number above 10 is no kind: no pin count fits it

@@ -51,7 +51,11 @@ pub fn stuck_node(circuit: Circuit, node: u16) -> u8
         Circuit::Good => UNKNOWN,
         Circuit::Faulty(fault) => {
             let site = fault.site;
-            if fault.node == node && is_whole(site) { fault.stuck } else { UNKNOWN }
+            if fault.node == node && is_whole(site) {
+                fault.stuck
+            } else {
+                UNKNOWN
+            }
         }
     }
 }
@@ -64,7 +68,11 @@ pub fn stuck_pin(circuit: Circuit, node: u16, pin: u16) -> u8
         Circuit::Good => UNKNOWN,
         Circuit::Faulty(fault) => {
             let site = fault.site;
-            if fault.node == node && is_pin(site, pin) { fault.stuck } else { UNKNOWN }
+            if fault.node == node && is_pin(site, pin) {
+                fault.stuck
+            } else {
+                UNKNOWN
+            }
         }
     }
 }

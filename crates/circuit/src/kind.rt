@@ -6,7 +6,9 @@ ghost use Rattle.circuit.specs.Kind.{ruleOf, unitOf, joinOf, invertedIf,
 ghost use Rattle.circuit.specs.Value.{neg, and₂, or₂, xor₂};
 
 pub const INPUT: u8 = 0;
+
 pub const OUTPUT: u8 = 1;
+
 pub const FLIP_FLOP: u8 = 2;
 
 // A value that is neither 0 nor 1 is unknown; this one stands for it.

@@ -9,9 +9,9 @@ ghost use Rattle.circuit.specs.Lists.{every};
 ghost use Rattle.circuit.specs.Netlist.{nodeCount, pinCount, kindOf, offsetOf, lengthOf, sourceOf, pairStart, sizesAllowed, kindKnown, pairJoined, countFits, sourceAllowed, sourcesAllowed, reading, readingSays};
 use crate::bytes::byte_at;
 use crate::bytes::u16_at;
-use crate::kind::rule_of;
 use crate::kind::FLIP_FLOP;
 use crate::kind::OUTPUT;
+use crate::kind::rule_of;
 
 // What reading a netlist finds: N and P of a sound one, or the refusal's number.
 pub enum Reading {
@@ -130,7 +130,11 @@ fn counts_fit(netlist: &[u8], n: u16) -> bool
 fn source_limit(netlist: &[u8], n: u16, node: u16) -> u16
     ensures { λ r. ⌜ r ≡ cond (isFlipFlop (kindOf (now (netlist .entry)) node)) n node ⌝ }
 {
-    if kind_of(netlist, node) == FLIP_FLOP { n } else { node }
+    if kind_of(netlist, node) == FLIP_FLOP {
+        n
+    } else {
+        node
+    }
 }
 
 // Besides, no pin names an output.

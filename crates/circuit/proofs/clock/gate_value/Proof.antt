@@ -75,11 +75,10 @@ loop-again c = let a = c .before .before .before .before .before .before .before
     let vs = pinValues (netOf s) (linesIn (a .circuit)) (at (now (a .seen))) (a .node) in
     let l = c .before .before .before .loop in
     let len = length-pinValues s (linesIn (a .circuit)) (at (now (a .seen))) (a .node) in
-    let h : l .pin - 1 < lengthOf s (a .node) = omega (arith, l .inv .0, c .before .before .loop-test .taken) in
-    (
+    let h : l .pin - 1 < lengthOf s (a .node) = omega (arith, l .inv .0, c .before .before .loop-test .taken) in (
       omega (arith, h),
       rw (c .join-of .ensures, c .before .pin-value .ensures, ← pinValues-at s (linesIn (a .circuit)) (at (now (a .seen))) (a .node) (l .pin - 1) h, l .inv .1)
-      (function-more g vs (l .pin) (c .before .before .loop-test .taken) (omega (arith, len, l .inv .0))),
+          (function-more g vs (l .pin) (c .before .before .loop-test .taken) (omega (arith, len, l .inv .0))),
     )
 
 -- src/clock.rt:59:5

@@ -57,8 +57,7 @@ loop-again c = let a = c .before .before .before .before .before .before .before
     let f = latchedBy (netOf (now (a .netlist))) (linesIn (a .circuit)) (at (now (a .seen))) in
     let l = c .before .before .before .before .before .before .loop in
     let st = c .before .before .store in
-    let h : l .node < length (now (a .second)) = omega (arith, c .before .before .before .before .before .before .before .before .before .before .pre .1) in
-    (
+    let h : l .node < length (now (a .second)) = omega (arith, c .before .before .before .before .before .before .before .before .before .before .pre .1) in (
       omega arith,
       rw (st .ensures) (simp length-set (l .inv .1)),
       rw (st .ensures, c .before .before .before .before .latched-value .ensures, l .inv .2) (build-store (λ _. f) (now (a .second)) (l .node) h),

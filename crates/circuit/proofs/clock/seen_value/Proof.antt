@@ -1,7 +1,7 @@
 use Rattle.circuit.specs.Netlist.{netOf}
 use Rattle.circuit.specs.Lists.{at}
 use Rattle.circuit.specs.Fault.{linesIn}
-use Rattle.circuit.proofs.StepLaws.{seenBy-stuck, seenBy-given, seenBy-gate}
+use Rattle.circuit.proofs.ClockLaws.{seenBy-stuck, seenBy-given, seenBy-gate}
 use denote.Ref.{now}
 use Prim.Native.Nat.{ℕ, _≤_, _-_, _<_, _+_, suc}
 use mathlib.Core.Path.{_≡_, refl, sym, _∙_, ap}

@@ -61,8 +61,7 @@ loop-again c = let a = c .before .before .before .before .before .before .before
     let e = sound-size s (a .n) (pinCount s) (c .before .before .before .before .before .before .before .before .before .before .pre .0) in
     let h : l .node < length d = omega (arith, c .before .before .before .before .before .before .before .before .before .before .pre .1) in
     let g : l .node < netOf s .size = omega (arith, e, c .before .before .before .before .before .before .loop-test .taken) in
-    let o = sound-ordered s (a .n) (pinCount s) (c .before .before .before .before .before .before .before .before .before .before .pre .0) in
-    (
+    let o = sound-ordered s (a .n) (pinCount s) (c .before .before .before .before .before .before .before .before .before .before .pre .0) in (
       omega arith,
       rw (st .ensures) (simp length-set (l .inv .1)),
       rw (st .ensures, c .before .before .before .before .seen-value .ensures, l .inv .2, seen-turn (netOf s) (linesIn (a .circuit)) d (l .node) o g (sym (c .before .before .before .before .before .before .before .before .before .before .pre .1 ∙ e))) (build-store f d (l .node) h),

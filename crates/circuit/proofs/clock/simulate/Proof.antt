@@ -6,7 +6,7 @@ use Rattle.circuit.specs.Answer.{refused, answered}
 use Rattle.circuit.specs.Clock.{clocked, outcome, stepped, steppedSays}
 use Rattle.circuit.proofs.RefusalLaws.{fails-here, fails-later}
 use Rattle.circuit.proofs.SoundLaws.{facts, sound-size}
-use Rattle.circuit.proofs.StepLaws.{step-unsound, step-refused, step-done, first-length, second-length}
+use Rattle.circuit.proofs.SimulatorLaws.{simulation-unsound, simulation-refused, simulation-done, slices-fitting}
 use borrow.Author.Needs.{needs}
 use Rattle.circuit.proofs.clock.simulate.Statement.{statement}
 use Rattle.circuit.proofs.clock.simulate.Tie as tie
@@ -38,9 +38,10 @@ refusal-number-requires c κs = search needs
 -- src/clock.rt:150:9
 returns : tie.Need-returns
 returns c = let a = c .before .before .before .before .before .before .before .args in
-    let q = clocked (now (a .netlist)) (a .circuit) (now (a .first)) (now (a .second)) in
-    let e = sym (ap readingSays (c .before .enum-told .given .1)) ∙ c .before .before .before .read .ensures in
-    rw (c .refusal-number .ensures, c .before .enum-told .given .1) (step-unsound q _ e)
+    let s = now (a .netlist) in
+    let q = clocked s (a .circuit) (now (a .first)) (now (a .second)) in
+    let e = sym (c .before .before .before .read .ensures) ∙ ap readingSays (c .before .enum-told .given .1) in
+    rw (c .refusal-number .ensures, c .before .enum-told .given .1) (sym (simulation-unsound q _ e))
 
 -- src/clock.rt:152:9
 circuit-exists-requires : tie.Need-circuit-exists-requires
@@ -49,20 +50,21 @@ circuit-exists-requires c κs = search needs
 -- src/clock.rt:153:9
 returns-2 : tie.Need-returns-2
 returns-2 c = let a = c .before .before .before .before .before .before .before .before .before .args in
-    let q = clocked (now (a .netlist)) (a .circuit) (now (a .first)) (now (a .second)) in
+    let s = now (a .netlist) in
+    let q = clocked s (a .circuit) (now (a .first)) (now (a .second)) in
     let n = c .before .before .before .answer .given .0 .0 in
     let p = c .before .before .before .answer .given .0 .1 .0 in
-    let e : sound n p ≡ reading (now (a .netlist)) = sym (ap readingSays (c .before .before .before .answer .given .1)) ∙ c .before .before .before .before .before .read .ensures in
-    step-refused q n p 9 e (fails-here (sym (c .before .circuit-exists .ensures) ∙ not-true _ (c .if1 .taken)) refl)
+    let e : reading s ≡ sound n p = sym (c .before .before .before .before .before .read .ensures) ∙ ap readingSays (c .before .before .before .answer .given .1) in
+    sym (simulation-refused q 9 e (fails-here (sym (c .before .circuit-exists .ensures) ∙ not-true _ (c .if1 .taken)) refl))
 
 -- src/clock.rt:155:9
 slices-fit-requires : tie.Need-slices-fit-requires
 slices-fit-requires c κs = let a = c .before .before .before .before .before .before .before .before .before .before .before .args in
-    let q = clocked (now (a .netlist)) (a .circuit) (now (a .first)) (now (a .second)) in
+    let s = now (a .netlist) in
     let n = c .before .before .before .before .before .answer .given .0 .0 in
     let p = c .before .before .before .before .before .answer .given .0 .1 .0 in
-    let e : sound n p ≡ reading (now (a .netlist)) = sym (ap readingSays (c .before .before .before .before .before .answer .given .1)) ∙ c .before .before .before .before .before .before .before .read .ensures in
-    sound-size (now (a .netlist)) n p (sym e)
+    let e : reading s ≡ sound n p = sym (c .before .before .before .before .before .before .before .read .ensures) ∙ ap readingSays (c .before .before .before .before .before .answer .given .1) in
+    sound-size s n p e
 
 -- src/clock.rt:156:9
 same-length : tie.Need-same-length
@@ -75,29 +77,33 @@ same-length-2 c = search needs
 -- src/clock.rt:156:9
 returns-3 : tie.Need-returns-3
 returns-3 c = let a = c .before .before .before .before .before .before .before .before .before .before .before .before .before .args in
-    let q = clocked (now (a .netlist)) (a .circuit) (now (a .first)) (now (a .second)) in
+    let s = now (a .netlist) in
+    let q = clocked s (a .circuit) (now (a .first)) (now (a .second)) in
     let n = c .before .before .before .before .before .before .before .answer .given .0 .0 in
     let p = c .before .before .before .before .before .before .before .answer .given .0 .1 .0 in
-    let e : sound n p ≡ reading (now (a .netlist)) = sym (ap readingSays (c .before .before .before .before .before .before .before .answer .given .1)) ∙ c .before .before .before .before .before .before .before .before .before .read .ensures in
-    step-refused q n p 16 e (fails-later (sym (c .before .before .before .before .before .circuit-exists .ensures) ∙ not-false _ (c .before .before .before .before .if1 .left)) (fails-here (sym (c .before .slices-fit .ensures) ∙ not-true _ (c .if2 .taken)) refl))
+    let e : reading s ≡ sound n p = sym (c .before .before .before .before .before .before .before .before .before .read .ensures) ∙ ap readingSays (c .before .before .before .before .before .before .before .answer .given .1) in
+    let x = sym (c .before .before .before .before .before .circuit-exists .ensures) ∙ not-false _ (c .before .before .before .before .if1 .left) in
+    sym (simulation-refused q 16 e (fails-later x (fails-here (sym (c .before .slices-fit .ensures) ∙ not-true _ (c .if2 .taken)) refl)))
 
 -- src/clock.rt:158:5
 settle-requires : tie.Need-settle-requires
 settle-requires c κs = let a = c .before .before .before .before .before .before .before .before .before .before .before .before .before .before .args in
-    let q = clocked (now (a .netlist)) (a .circuit) (now (a .first)) (now (a .second)) in
+    let s = now (a .netlist) in
     let n = c .before .before .before .before .before .before .before .before .answer .given .0 .0 in
     let p = c .before .before .before .before .before .before .before .before .answer .given .0 .1 .0 in
-    let e : sound n p ≡ reading (now (a .netlist)) = sym (ap readingSays (c .before .before .before .before .before .before .before .before .answer .given .1)) ∙ c .before .before .before .before .before .before .before .before .before .before .read .ensures in
-    ?
+    let e : reading s ≡ sound n p = sym (c .before .before .before .before .before .before .before .before .before .before .read .ensures) ∙ ap readingSays (c .before .before .before .before .before .before .before .before .answer .given .1) in
+    let y = sym (c .before .before .slices-fit .ensures) ∙ not-false _ (c .before .if2 .left) in
+    (rw (← facts s n p e .pins) e, slices-fitting (netOf s) (now (a .first)) (now (a .second)) y .first-size ∙ sym (sound-size s n p e))
 
 -- src/clock.rt:159:5
 latch-requires : tie.Need-latch-requires
 latch-requires c κs = let a = c .before .before .before .before .before .before .before .before .before .before .before .before .before .before .before .before .before .before .before .args in
-    let q = clocked (now (a .netlist)) (a .circuit) (now (a .first)) (now (a .second)) in
+    let s = now (a .netlist) in
     let n = c .before .before .before .before .before .before .before .before .before .before .before .before .before .answer .given .0 .0 in
     let p = c .before .before .before .before .before .before .before .before .before .before .before .before .before .answer .given .0 .1 .0 in
-    let e : sound n p ≡ reading (now (a .netlist)) = sym (ap readingSays (c .before .before .before .before .before .before .before .before .before .before .before .before .before .answer .given .1)) ∙ c .before .before .before .before .before .before .before .before .before .before .before .before .before .before .before .read .ensures in
-    ?
+    let e : reading s ≡ sound n p = sym (c .before .before .before .before .before .before .before .before .before .before .before .before .before .before .before .read .ensures) ∙ ap readingSays (c .before .before .before .before .before .before .before .before .before .before .before .before .before .answer .given .1) in
+    let y = sym (c .before .before .before .before .before .before .before .slices-fit .ensures) ∙ not-false _ (c .before .before .before .before .before .before .if2 .left) in
+    (rw (← facts s n p e .pins) e, slices-fitting (netOf s) (now (a .first)) (now (a .second)) y .second-size ∙ sym (sound-size s n p e))
 
 -- src/clock.rt:145:1
 same-length-3 : tie.Need-same-length-3
@@ -109,12 +115,16 @@ same-length-4 c = search needs
 
 -- src/clock.rt:145:1
 returns-4 : tie.Need-returns-4
+unfolding stepped
 returns-4 c = let a = c .before .before .before .before .before .before .before .before .before .before .before .before .before .before .before .before .before .before .before .before .before .before .args in
-    let q = clocked (now (a .netlist)) (a .circuit) (now (a .first)) (now (a .second)) in
+    let s = now (a .netlist) in
+    let q = clocked s (a .circuit) (now (a .first)) (now (a .second)) in
     let n = c .before .before .before .before .before .before .before .before .before .before .before .before .before .before .before .before .answer .given .0 .0 in
     let p = c .before .before .before .before .before .before .before .before .before .before .before .before .before .before .before .before .answer .given .0 .1 .0 in
-    let e : sound n p ≡ reading (now (a .netlist)) = sym (ap readingSays (c .before .before .before .before .before .before .before .before .before .before .before .before .before .before .before .before .answer .given .1)) ∙ c .before .before .before .before .before .before .before .before .before .before .before .before .before .before .before .before .before .before .read .ensures in
-    ?
+    let e : reading s ≡ sound n p = sym (c .before .before .before .before .before .before .before .before .before .before .before .before .before .before .before .before .before .before .read .ensures) ∙ ap readingSays (c .before .before .before .before .before .before .before .before .before .before .before .before .before .before .before .before .answer .given .1) in
+    let x = sym (c .before .before .before .before .before .before .before .before .before .before .before .before .before .before .circuit-exists .ensures) ∙ not-false _ (c .before .before .before .before .before .before .before .before .before .before .before .before .before .if1 .left) in
+    let y = sym (c .before .before .before .before .before .before .before .before .before .before .slices-fit .ensures) ∙ not-false _ (c .before .before .before .before .before .before .before .before .before .if2 .left) in
+    rw (c .before .before .latch .ensures, c .before .before .before .before .before .before .before .settle .ensures) (sym (simulation-done q e (x, (y, tt))))
 
 pub simulate-spec : {M : Type 1} → statement M
 simulate-spec =

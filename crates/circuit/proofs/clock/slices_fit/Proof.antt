@@ -1,4 +1,4 @@
-use Rattle.circuit.proofs.StepLaws.{slices-first, slices-second, slices-places}
+use Rattle.circuit.proofs.SimulatorLaws.{slices-first, slices-second, slices-places}
 use borrow.Author.Tests.{eq-eqb, ne-eqb}
 use Rattle.circuit.specs.Netlist.{netOf}
 use Rattle.circuit.specs.Clock.{slicesFit}

@@ -25,7 +25,7 @@ use Rattle.circuit.proofs.netlist.sizes_allowed.Reads as sizes-allowed-
 returns : tie.Need-returns
 returns c = let s = now (c .before .before .args .netlist) in
     read-refused s 1
-        (fails-here (lt-leb 4 _ (c .if1 .taken)) refl)
+    (fails-here (lt-leb 4 _ (c .if1 .taken)) refl)
 
 -- src/netlist.rt:170:9
 node-count-requires : tie.Need-node-count-requires
@@ -43,8 +43,8 @@ sizes-allowed-requires c κs = search needs
 returns-2 : tie.Need-returns-2
 returns-2 c = let s = now (c .before .before .before .before .before .before .args .netlist) in
     read-refused s 2
-        (fails-later (le-leb 4 _ (c .before .before .before .before .if1 .left))
-        (fails-here (rw (← c .before .before .before .node-count .ensures, ← c .before .before .pin-count .ensures) (sym (c .before .sizes-allowed .ensures) ∙ not-true _ (c .if2 .taken))) refl))
+    (fails-later (le-leb 4 _ (c .before .before .before .before .if1 .left))
+    (fails-here (rw (← c .before .before .before .node-count .ensures, ← c .before .before .pin-count .ensures) (sym (c .before .sizes-allowed .ensures) ∙ not-true _ (c .if2 .taken))) refl))
 
 -- src/netlist.rt:175:34
 cast-if3 : tie.Need-cast-if3
@@ -74,9 +74,9 @@ add-if3-2 c = search needs
 returns-3 : tie.Need-returns-3
 returns-3 c = let s = now (c .before .before .before .before .before .before .before .args .netlist) in
     read-refused s 3
-        (fails-later (le-leb 4 _ (c .before .before .before .before .before .if1 .left))
-        (fails-later (rw (← c .before .before .before .before .node-count .ensures, ← c .before .before .before .pin-count .ensures) (sym (c .before .before .sizes-allowed .ensures) ∙ not-false _ (c .before .if2 .left)))
-        (fails-here (rw (← c .before .before .before .before .node-count .ensures, ← c .before .before .before .pin-count .ensures) (ne-eqb _ _ (c .if3 .taken))) refl)))
+    (fails-later (le-leb 4 _ (c .before .before .before .before .before .if1 .left))
+    (fails-later (rw (← c .before .before .before .before .node-count .ensures, ← c .before .before .before .pin-count .ensures) (sym (c .before .before .sizes-allowed .ensures) ∙ not-false _ (c .before .if2 .left)))
+    (fails-here (rw (← c .before .before .before .before .node-count .ensures, ← c .before .before .before .pin-count .ensures) (ne-eqb _ _ (c .if3 .taken))) refl)))
 
 -- src/netlist.rt:178:9
 kinds-known-requires : tie.Need-kinds-known-requires
@@ -86,10 +86,10 @@ kinds-known-requires c κs = search needs
 returns-4 : tie.Need-returns-4
 returns-4 c = let s = now (c .before .before .before .before .before .before .before .before .before .args .netlist) in
     read-refused s 4
-        (fails-later (le-leb 4 _ (c .before .before .before .before .before .before .before .if1 .left))
-        (fails-later (rw (← c .before .before .before .before .before .before .node-count .ensures, ← c .before .before .before .before .before .pin-count .ensures) (sym (c .before .before .before .before .sizes-allowed .ensures) ∙ not-false _ (c .before .before .before .if2 .left)))
-        (fails-later (rw (← c .before .before .before .before .before .before .node-count .ensures, ← c .before .before .before .before .before .pin-count .ensures) (eq-eqb _ _ (c .before .before .if3 .left)))
-        (fails-here (rw (← c .before .before .before .before .before .before .node-count .ensures) (sym (c .before .kinds-known .ensures) ∙ not-true _ (c .if4 .taken))) refl))))
+    (fails-later (le-leb 4 _ (c .before .before .before .before .before .before .before .if1 .left))
+    (fails-later (rw (← c .before .before .before .before .before .before .node-count .ensures, ← c .before .before .before .before .before .pin-count .ensures) (sym (c .before .before .before .before .sizes-allowed .ensures) ∙ not-false _ (c .before .before .before .if2 .left)))
+    (fails-later (rw (← c .before .before .before .before .before .before .node-count .ensures, ← c .before .before .before .before .before .pin-count .ensures) (eq-eqb _ _ (c .before .before .if3 .left)))
+    (fails-here (rw (← c .before .before .before .before .before .before .node-count .ensures) (sym (c .before .kinds-known .ensures) ∙ not-true _ (c .if4 .taken))) refl))))
 
 -- src/netlist.rt:181:9
 pairs-joined-requires : tie.Need-pairs-joined-requires
@@ -99,11 +99,11 @@ pairs-joined-requires c κs = search needs
 returns-5 : tie.Need-returns-5
 returns-5 c = let s = now (c .before .before .before .before .before .before .before .before .before .before .before .args .netlist) in
     read-refused s 5
-        (fails-later (le-leb 4 _ (c .before .before .before .before .before .before .before .before .before .if1 .left))
-        (fails-later (rw (← c .before .before .before .before .before .before .before .before .node-count .ensures, ← c .before .before .before .before .before .before .before .pin-count .ensures) (sym (c .before .before .before .before .before .before .sizes-allowed .ensures) ∙ not-false _ (c .before .before .before .before .before .if2 .left)))
-        (fails-later (rw (← c .before .before .before .before .before .before .before .before .node-count .ensures, ← c .before .before .before .before .before .before .before .pin-count .ensures) (eq-eqb _ _ (c .before .before .before .before .if3 .left)))
-        (fails-later (rw (← c .before .before .before .before .before .before .before .before .node-count .ensures) (sym (c .before .before .before .kinds-known .ensures) ∙ not-false _ (c .before .before .if4 .left)))
-        (fails-here (rw (← c .before .before .before .before .before .before .before .before .node-count .ensures, ← c .before .before .before .before .before .before .before .pin-count .ensures) (sym (c .before .pairs-joined .ensures) ∙ not-true _ (c .if5 .taken))) refl)))))
+    (fails-later (le-leb 4 _ (c .before .before .before .before .before .before .before .before .before .if1 .left))
+    (fails-later (rw (← c .before .before .before .before .before .before .before .before .node-count .ensures, ← c .before .before .before .before .before .before .before .pin-count .ensures) (sym (c .before .before .before .before .before .before .sizes-allowed .ensures) ∙ not-false _ (c .before .before .before .before .before .if2 .left)))
+    (fails-later (rw (← c .before .before .before .before .before .before .before .before .node-count .ensures, ← c .before .before .before .before .before .before .before .pin-count .ensures) (eq-eqb _ _ (c .before .before .before .before .if3 .left)))
+    (fails-later (rw (← c .before .before .before .before .before .before .before .before .node-count .ensures) (sym (c .before .before .before .kinds-known .ensures) ∙ not-false _ (c .before .before .if4 .left)))
+    (fails-here (rw (← c .before .before .before .before .before .before .before .before .node-count .ensures, ← c .before .before .before .before .before .before .before .pin-count .ensures) (sym (c .before .pairs-joined .ensures) ∙ not-true _ (c .if5 .taken))) refl)))))
 
 -- src/netlist.rt:184:9
 counts-fit-requires : tie.Need-counts-fit-requires
@@ -113,12 +113,12 @@ counts-fit-requires c κs = search needs
 returns-6 : tie.Need-returns-6
 returns-6 c = let s = now (c .before .before .before .before .before .before .before .before .before .before .before .before .before .args .netlist) in
     read-refused s 6
-        (fails-later (le-leb 4 _ (c .before .before .before .before .before .before .before .before .before .before .before .if1 .left))
-        (fails-later (rw (← c .before .before .before .before .before .before .before .before .before .before .node-count .ensures, ← c .before .before .before .before .before .before .before .before .before .pin-count .ensures) (sym (c .before .before .before .before .before .before .before .before .sizes-allowed .ensures) ∙ not-false _ (c .before .before .before .before .before .before .before .if2 .left)))
-        (fails-later (rw (← c .before .before .before .before .before .before .before .before .before .before .node-count .ensures, ← c .before .before .before .before .before .before .before .before .before .pin-count .ensures) (eq-eqb _ _ (c .before .before .before .before .before .before .if3 .left)))
-        (fails-later (rw (← c .before .before .before .before .before .before .before .before .before .before .node-count .ensures) (sym (c .before .before .before .before .before .kinds-known .ensures) ∙ not-false _ (c .before .before .before .before .if4 .left)))
-        (fails-later (rw (← c .before .before .before .before .before .before .before .before .before .before .node-count .ensures, ← c .before .before .before .before .before .before .before .before .before .pin-count .ensures) (sym (c .before .before .before .pairs-joined .ensures) ∙ not-false _ (c .before .before .if5 .left)))
-        (fails-here (rw (← c .before .before .before .before .before .before .before .before .before .before .node-count .ensures) (sym (c .before .counts-fit .ensures) ∙ not-true _ (c .if6 .taken))) refl))))))
+    (fails-later (le-leb 4 _ (c .before .before .before .before .before .before .before .before .before .before .before .if1 .left))
+    (fails-later (rw (← c .before .before .before .before .before .before .before .before .before .before .node-count .ensures, ← c .before .before .before .before .before .before .before .before .before .pin-count .ensures) (sym (c .before .before .before .before .before .before .before .before .sizes-allowed .ensures) ∙ not-false _ (c .before .before .before .before .before .before .before .if2 .left)))
+    (fails-later (rw (← c .before .before .before .before .before .before .before .before .before .before .node-count .ensures, ← c .before .before .before .before .before .before .before .before .before .pin-count .ensures) (eq-eqb _ _ (c .before .before .before .before .before .before .if3 .left)))
+    (fails-later (rw (← c .before .before .before .before .before .before .before .before .before .before .node-count .ensures) (sym (c .before .before .before .before .before .kinds-known .ensures) ∙ not-false _ (c .before .before .before .before .if4 .left)))
+    (fails-later (rw (← c .before .before .before .before .before .before .before .before .before .before .node-count .ensures, ← c .before .before .before .before .before .before .before .before .before .pin-count .ensures) (sym (c .before .before .before .pairs-joined .ensures) ∙ not-false _ (c .before .before .if5 .left)))
+    (fails-here (rw (← c .before .before .before .before .before .before .before .before .before .before .node-count .ensures) (sym (c .before .counts-fit .ensures) ∙ not-true _ (c .if6 .taken))) refl))))))
 
 -- src/netlist.rt:187:9
 all-sources-allowed-requires : tie.Need-all-sources-allowed-requires
@@ -128,19 +128,19 @@ all-sources-allowed-requires c κs = c .before .before .before .before .before .
 returns-7 : tie.Need-returns-7
 returns-7 c = let s = now (c .before .before .before .before .before .before .before .before .before .before .before .before .before .before .before .args .netlist) in
     read-refused s 7
-        (fails-later (le-leb 4 _ (c .before .before .before .before .before .before .before .before .before .before .before .before .before .if1 .left))
-        (fails-later (rw (← c .before .before .before .before .before .before .before .before .before .before .before .before .node-count .ensures, ← c .before .before .before .before .before .before .before .before .before .before .before .pin-count .ensures) (sym (c .before .before .before .before .before .before .before .before .before .before .sizes-allowed .ensures) ∙ not-false _ (c .before .before .before .before .before .before .before .before .before .if2 .left)))
-        (fails-later (rw (← c .before .before .before .before .before .before .before .before .before .before .before .before .node-count .ensures, ← c .before .before .before .before .before .before .before .before .before .before .before .pin-count .ensures) (eq-eqb _ _ (c .before .before .before .before .before .before .before .before .if3 .left)))
-        (fails-later (rw (← c .before .before .before .before .before .before .before .before .before .before .before .before .node-count .ensures) (sym (c .before .before .before .before .before .before .before .kinds-known .ensures) ∙ not-false _ (c .before .before .before .before .before .before .if4 .left)))
-        (fails-later (rw (← c .before .before .before .before .before .before .before .before .before .before .before .before .node-count .ensures, ← c .before .before .before .before .before .before .before .before .before .before .before .pin-count .ensures) (sym (c .before .before .before .before .before .pairs-joined .ensures) ∙ not-false _ (c .before .before .before .before .if5 .left)))
-        (fails-later (rw (← c .before .before .before .before .before .before .before .before .before .before .before .before .node-count .ensures) (sym (c .before .before .before .counts-fit .ensures) ∙ not-false _ (c .before .before .if6 .left)))
-        (fails-here (rw (← c .before .before .before .before .before .before .before .before .before .before .before .before .node-count .ensures) (sym (c .before .all-sources-allowed .ensures) ∙ not-true _ (c .if7 .taken))) refl)))))))
+    (fails-later (le-leb 4 _ (c .before .before .before .before .before .before .before .before .before .before .before .before .before .if1 .left))
+    (fails-later (rw (← c .before .before .before .before .before .before .before .before .before .before .before .before .node-count .ensures, ← c .before .before .before .before .before .before .before .before .before .before .before .pin-count .ensures) (sym (c .before .before .before .before .before .before .before .before .before .before .sizes-allowed .ensures) ∙ not-false _ (c .before .before .before .before .before .before .before .before .before .if2 .left)))
+    (fails-later (rw (← c .before .before .before .before .before .before .before .before .before .before .before .before .node-count .ensures, ← c .before .before .before .before .before .before .before .before .before .before .before .pin-count .ensures) (eq-eqb _ _ (c .before .before .before .before .before .before .before .before .if3 .left)))
+    (fails-later (rw (← c .before .before .before .before .before .before .before .before .before .before .before .before .node-count .ensures) (sym (c .before .before .before .before .before .before .before .kinds-known .ensures) ∙ not-false _ (c .before .before .before .before .before .before .if4 .left)))
+    (fails-later (rw (← c .before .before .before .before .before .before .before .before .before .before .before .before .node-count .ensures, ← c .before .before .before .before .before .before .before .before .before .before .before .pin-count .ensures) (sym (c .before .before .before .before .before .pairs-joined .ensures) ∙ not-false _ (c .before .before .before .before .if5 .left)))
+    (fails-later (rw (← c .before .before .before .before .before .before .before .before .before .before .before .before .node-count .ensures) (sym (c .before .before .before .counts-fit .ensures) ∙ not-false _ (c .before .before .if6 .left)))
+    (fails-here (rw (← c .before .before .before .before .before .before .before .before .before .before .before .before .node-count .ensures) (sym (c .before .all-sources-allowed .ensures) ∙ not-true _ (c .if7 .taken))) refl)))))))
 
 -- src/netlist.rt:164:1
 returns-8 : tie.Need-returns-8
 returns-8 c = let s = now (c .before .before .before .before .before .before .before .before .before .before .before .before .before .before .before .args .netlist) in
     rw (c .before .before .before .before .before .before .before .before .before .before .before .before .node-count .ensures, c .before .before .before .before .before .before .before .before .before .before .before .pin-count .ensures)
-        (read-sound s (le-leb 4 _ (c .before .before .before .before .before .before .before .before .before .before .before .before .before .if1 .left), (rw (← c .before .before .before .before .before .before .before .before .before .before .before .before .node-count .ensures, ← c .before .before .before .before .before .before .before .before .before .before .before .pin-count .ensures) (sym (c .before .before .before .before .before .before .before .before .before .before .sizes-allowed .ensures) ∙ not-false _ (c .before .before .before .before .before .before .before .before .before .if2 .left)), (rw (← c .before .before .before .before .before .before .before .before .before .before .before .before .node-count .ensures, ← c .before .before .before .before .before .before .before .before .before .before .before .pin-count .ensures) (eq-eqb _ _ (c .before .before .before .before .before .before .before .before .if3 .left)), (rw (← c .before .before .before .before .before .before .before .before .before .before .before .before .node-count .ensures) (sym (c .before .before .before .before .before .before .before .kinds-known .ensures) ∙ not-false _ (c .before .before .before .before .before .before .if4 .left)), (rw (← c .before .before .before .before .before .before .before .before .before .before .before .before .node-count .ensures, ← c .before .before .before .before .before .before .before .before .before .before .before .pin-count .ensures) (sym (c .before .before .before .before .before .pairs-joined .ensures) ∙ not-false _ (c .before .before .before .before .if5 .left)), (rw (← c .before .before .before .before .before .before .before .before .before .before .before .before .node-count .ensures) (sym (c .before .before .before .counts-fit .ensures) ∙ not-false _ (c .before .before .if6 .left)), (rw (← c .before .before .before .before .before .before .before .before .before .before .before .before .node-count .ensures) (sym (c .before .all-sources-allowed .ensures) ∙ not-false _ (c .if7 .left)), tt))))))))
+    (read-sound s (le-leb 4 _ (c .before .before .before .before .before .before .before .before .before .before .before .before .before .if1 .left), (rw (← c .before .before .before .before .before .before .before .before .before .before .before .before .node-count .ensures, ← c .before .before .before .before .before .before .before .before .before .before .before .pin-count .ensures) (sym (c .before .before .before .before .before .before .before .before .before .before .sizes-allowed .ensures) ∙ not-false _ (c .before .before .before .before .before .before .before .before .before .if2 .left)), (rw (← c .before .before .before .before .before .before .before .before .before .before .before .before .node-count .ensures, ← c .before .before .before .before .before .before .before .before .before .before .before .pin-count .ensures) (eq-eqb _ _ (c .before .before .before .before .before .before .before .before .if3 .left)), (rw (← c .before .before .before .before .before .before .before .before .before .before .before .before .node-count .ensures) (sym (c .before .before .before .before .before .before .before .kinds-known .ensures) ∙ not-false _ (c .before .before .before .before .before .before .if4 .left)), (rw (← c .before .before .before .before .before .before .before .before .before .before .before .before .node-count .ensures, ← c .before .before .before .before .before .before .before .before .before .before .before .pin-count .ensures) (sym (c .before .before .before .before .before .pairs-joined .ensures) ∙ not-false _ (c .before .before .before .before .if5 .left)), (rw (← c .before .before .before .before .before .before .before .before .before .before .before .before .node-count .ensures) (sym (c .before .before .before .counts-fit .ensures) ∙ not-false _ (c .before .before .if6 .left)), (rw (← c .before .before .before .before .before .before .before .before .before .before .before .before .node-count .ensures) (sym (c .before .all-sources-allowed .ensures) ∙ not-false _ (c .if7 .left)), tt))))))))
 
 pub read-spec : {M : Type 1} → statement M
 read-spec =

@@ -1,0 +1,114 @@
+-- Laws of the simulator's answer: when it is done, and that it has then made one clock step of a run.
+use mathlib.Core.Bool.{Bool, _&&_, _||_, false, not, true, true≢false}
+use mathlib.Core.List.{List, []}
+use mathlib.Core.Option.{Option, none, some}
+use mathlib.Core.Path.{_∙_, _≡_, ap, refl, sym}
+use Prim.Native.Nat.{_<_, ℕ}
+use native.Mathlib.Omega.{arith}
+use lib.Dec.{eqb, leb}
+use lib.ListN.{length}
+use borrow.Author.Tests.{eq-eqb, eqb-true, leb-true, ne-eqb}
+use Rattle.circuit.proofs.BoolLaws.{and-left, and-right}
+use Rattle.circuit.proofs.ListLaws.{every-at}
+use Rattle.circuit.proofs.RefusalLaws.{FirstFails, Passed, refusal-at, refusal-by, refusal-none}
+use Rattle.circuit.proofs.RunLaws.{stepped-clock}
+use Rattle.circuit.proofs.SoundLaws.{answered-sound}
+use Rattle.circuit.specs.Answer.{Answer, answered, refusal, refused}
+use Rattle.circuit.specs.Clock.{Clocked, Outcome, outcome, placeReadable, simulation, simulatorTests, slicesFit, stepped, turnedBack}
+use Rattle.circuit.specs.ClockLists.{InputBits, LatchedBits, latchedAfter, seenAfter}
+use Rattle.circuit.specs.Fault.{linesIn}
+use Rattle.circuit.specs.Kind.{isGiven}
+use Rattle.circuit.specs.Lists.{at, every}
+use Rattle.circuit.specs.Netlist.{Net, netOf, nodeCount, pinCount, reading, sound}
+
+module _ (a : Clocked) where
+  abbrev tested : Option ℕ → Outcome
+  tested r = elim r [ some k ↦ turnedBack k a | none ↦ stepped a ]
+
+  abbrev read-then : Answer → Outcome
+  read-then r = elim r [ refused k ↦ turnedBack k a | answered _ ↦ tested (refusal simulatorTests a) ]
+
+  -- an unsound netlist is turned back with the reader's number
+  pub simulation-unsound : (k : ℕ) → reading (a .netlist) ≡ refused k → simulation a ≡ turnedBack k a
+  unfolding simulation
+  simulation-unsound k e = ap read-then e
+
+  -- a sound one with the number of the first test that fails
+  pub simulation-refused : {vs : List ℕ} (k : ℕ) → reading (a .netlist) ≡ answered vs → FirstFails a k simulatorTests → simulation a ≡ turnedBack k a
+  unfolding simulation
+  simulation-refused k e f = ap read-then e ∙ ap tested (refusal-at simulatorTests a k f)
+
+  -- and the clock step is done where all tests pass
+  pub simulation-done : {vs : List ℕ} → reading (a .netlist) ≡ answered vs → Passed simulatorTests a → simulation a ≡ stepped a
+  unfolding simulation
+  simulation-done e t = ap read-then e ∙ ap tested (refusal-by simulatorTests a t)
+
+-- the test of the slices, as it goes on from one part to the next
+module _ (c : Net) (v w : List ℕ) (n : ℕ) (e : n ≡ c .size) where
+  pub slices-first : (length v ≡ n → ⊥) → eqb (length v) n ≡ slicesFit c v w
+  unfolding slicesFit
+  slices-first h = rw (← e, ne-eqb (length v) n h)
+
+  pub slices-second : length v ≡ n → (length w ≡ n → ⊥) → eqb (length w) n ≡ slicesFit c v w
+  unfolding slicesFit
+  slices-second g h = rw (← e, eq-eqb (length v) n g, ne-eqb (length w) n h)
+
+  pub slices-places : length v ≡ n → length w ≡ n → every (placeReadable c v) n ≡ slicesFit c v w
+  unfolding slicesFit
+  slices-places g h = rw e (rw (eq-eqb (length v) (c .size) (g ∙ e), eq-eqb (length w) (c .size) (h ∙ e)))
+
+-- both slices have N bytes, and the inputs and latched values that are read are 0 or 1
+pub record Fitting (c : Net) (first second : List ℕ) : Type 0 where
+  pub first-size : length first ≡ c .size
+  pub second-size : length second ≡ c .size
+  pub inputs : InputBits c first
+  pub latched : LatchedBits c first
+
+pub slices-fitting : (c : Net) (first second : List ℕ) → slicesFit c first second ≡ true → Fitting c first second
+unfolding slicesFit placeReadable InputBits LatchedBits
+slices-fitting c first second e =
+    record {
+      first-size = eqb-true (length first) (c .size) (and-left (eqb (length first) (c .size)) (eqb (length second) (c .size) && every (placeReadable c first) (c .size)) e);
+      second-size = eqb-true (length second) (c .size) (and-left (eqb (length second) (c .size)) (every (placeReadable c first) (c .size)) rest);
+      inputs = λ n h q. low n h (rw q);
+      latched = λ n h q. low n h (rw q);
+    }
+  where
+    rest : (eqb (length second) (c .size) && every (placeReadable c first) (c .size)) ≡ true
+    rest = and-right (eqb (length first) (c .size)) (eqb (length second) (c .size) && every (placeReadable c first) (c .size)) e
+
+    readable : (b d : Bool) → (not b || d) ≡ true → b ≡ true → d ≡ true
+    readable true d e q = e
+    readable false d e q = absurd (true≢false (sym q))
+
+    low : (n : ℕ) → n < c .size → isGiven (c .kind n) ≡ true → at first n < 2
+    low n h q =
+        let l = leb-true (at first n) 1 (readable (isGiven (c .kind n)) (leb (at first n) 1) (every-at (placeReadable c first) (c .size) (and-right (eqb (length second) (c .size)) (every (placeReadable c first) (c .size)) rest) n h) q) in
+        omega arith
+
+-- what the answer done says: the netlist is sound, and the tests pass
+pub record Done (a : Clocked) : Type 0 where
+  pub sound-netlist : reading (a .netlist) ≡ sound (nodeCount (a .netlist)) (pinCount (a .netlist))
+  pub passed : Passed simulatorTests a
+  pub slices : Fitting (netOf (a .netlist)) (a .first) (a .second)
+
+pub done : (a : Clocked) → simulation a .answer ≡ answered [] → Done a
+unfolding simulation
+done a e = go (reading (a .netlist)) refl e
+  where
+    tests : (r : Option ℕ) → refusal simulatorTests a ≡ r → tested a r .answer ≡ answered [] → Passed simulatorTests a
+    tests none q e = refusal-none simulatorTests a q
+    tests (some k) q e = absurd (let z : _≡_ {A = ℕ} 0 1 = cc in omega arith)
+
+    go : (r : Answer) → reading (a .netlist) ≡ r → read-then a r .answer ≡ answered [] → Done a
+    go (refused k) q e = absurd (let z : _≡_ {A = ℕ} 0 1 = cc in omega arith)
+    go (answered vs) q e =
+        let t = tests (refusal simulatorTests a) refl e in
+        record { sound-netlist = answered-sound (a .netlist) vs q; passed = t; slices = slices-fitting (netOf (a .netlist)) (a .first) (a .second) (t .1 .0) }
+
+-- done: one clock of a run, from the inputs and the latched values that the first slice held
+pub done-clock : (a : Clocked) → simulation a .answer ≡ answered []
+    → simulation a ≡ outcome (answered []) (seenAfter (netOf (a .netlist)) (linesIn (a .circuit)) (a .first) (a .first)) (latchedAfter (netOf (a .netlist)) (linesIn (a .circuit)) (a .first) (a .first))
+done-clock a e =
+    let d = done a e in
+    simulation-done a (d .sound-netlist) (d .passed) ∙ stepped-clock a (a .first) (a .first) (λ _ _ _. refl) (λ _ _ _. refl)
