@@ -18,6 +18,10 @@ pub record StuckLines : Type 0 where
 abbrev pub noneStuck : StuckLines
 noneStuck = record { node = λ n. 2; pin = λ n k. 2 }
 
+-- the site that a byte names: the node itself is written 255, a pin by its number
+abbrev pub siteOf : ℕ → Site
+siteOf b = cond (eqb b 255) Whole (Pin b)
+
 -- the site is the node itself; the site is pin k
 abbrev pub isWhole : Site → Bool
 isWhole Whole = true

@@ -2,7 +2,7 @@
 ghost use mathlib.Core.Path.{_≡_};
 ghost use Rattle.circuit.specs.Value.{stuckOr};
 ghost use Rattle.circuit.specs.Netlist.{netOf};
-ghost use Rattle.circuit.specs.Fault.{isWhole, isPin, siteExists, faultExists, circuitExists, linesIn};
+ghost use Rattle.circuit.specs.Fault.{siteOf, isWhole, isPin, siteExists, faultExists, circuitExists, linesIn};
 use crate::kind::UNKNOWN;
 use crate::netlist::length_of;
 use crate::netlist::node_count;
@@ -23,6 +23,16 @@ pub struct Fault {
 pub enum Circuit {
     Good,
     Faulty(Fault),
+}
+
+// The site that a byte names.
+pub fn site_of(written: u8) -> Site
+    ensures { λ r. ⌜ r ≡ siteOf written ⌝ }
+{
+    if written == 255 {
+        return Site::Whole;
+    }
+    Site::Pin(written)
 }
 
 fn is_whole(site: Site) -> bool

@@ -1,0 +1,24 @@
+use mathlib.Core.Path.{_∙_, ap}
+use Rattle.capi.specs.Numbers.{readNumber}
+use borrow.Author.Needs.{needs}
+use Rattle.capi.proofs.leverpeach_read.Statement.{statement}
+use Rattle.capi.proofs.leverpeach_read.Tie as tie
+use Rattle.capi.proofs.leverpeach_read.Reads as reads
+use Rattle.capi.proofs.leverpeach_read.Lts as lts
+use Rattle.capi.proofs.number_of_reading.Reads as number-of-reading-reads
+use Rattle.circuit.proofs.read.Reads as read-reads
+
+-- src/lib.rt:50:23
+read-requires : tie.Need-read-requires
+read-requires c κs = search needs
+
+-- src/lib.rt:50:5
+number-of-reading-requires : tie.Need-number-of-reading-requires
+number-of-reading-requires c κs = search needs
+
+-- src/lib.rt:46:1
+returns : tie.Need-returns
+returns c = c .number-of-reading .ensures ∙ ap readNumber (c .before .read .ensures)
+
+pub leverpeach-read-spec : {M : Type 1} → statement M
+leverpeach-read-spec = tie.close (tie.spec read-requires number-of-reading-requires returns)

@@ -1,0 +1,2 @@
+-- What the C interface says: faults and answers as numbers.
+pub mod Numbers

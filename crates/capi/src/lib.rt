@@ -1,0 +1,69 @@
+// The kit for C and other languages: numbers and byte slices alone. A slice is passed as a
+// pointer and then a length. Every function is total: any arguments get an answer.
+ghost use mathlib.Core.Path.{_≡_};
+ghost use Rattle.circuit.specs.Answer.{numberOf};
+ghost use Rattle.circuit.specs.Netlist.{reading, readingSays};
+ghost use Rattle.circuit.specs.Clock.{clocked, simulation, steppedSays};
+ghost use Rattle.capi.specs.Numbers.{circuitOf, readNumber, simulated, numbered};
+use circuit::Circuit;
+use circuit::Fault;
+use circuit::Reading;
+use circuit::Stepped;
+
+fn circuit_of(faulted: u8, node: u16, site: u8, u: u8) -> Circuit
+    ensures { λ r. ⌜ r ≡ circuitOf faulted node site u ⌝ }
+{
+    if faulted == 0 {
+        return Circuit::Good;
+    }
+    let place = circuit::fault::site_of(site);
+    Circuit::Faulty(Fault {
+        node,
+        site: place,
+        stuck: u,
+    })
+}
+
+fn number_of_reading(answer: Reading) -> u64
+    ensures { λ r. ⌜ r ≡ readNumber (readingSays answer) ⌝ }
+{
+    match answer {
+        Reading::Sound(n, p) => 4294967296 + 65536 * (n as u64) + p as u64,
+        Reading::Refused(number) => number as u64,
+    }
+}
+
+fn number_of_step(answer: Stepped) -> u64
+    ensures { λ r. ⌜ r ≡ numberOf (steppedSays answer) ⌝ }
+{
+    match answer {
+        Stepped::Done => 0,
+        Stepped::Refused(number) => number as u64,
+    }
+}
+
+// Whether a netlist is sound: the refusal's number, or 2^32 + 65,536 × N + P.
+#[no_mangle]
+pub extern "C" fn leverpeach_read(netlist: &[u8]) -> u64
+    ensures { λ r. ⌜ r ≡ readNumber (reading (now (netlist .entry))) ⌝ }
+{
+    number_of_reading(circuit::read(netlist))
+}
+
+// One clock step: 0 for done, or the refusal's number. Where `faulted` is 0 the circuit is good,
+// and node, site and u are not looked at.
+#[no_mangle]
+pub extern "C" fn leverpeach_simulate(
+    netlist: &[u8],
+    faulted: u8,
+    node: u16,
+    site: u8,
+    u: u8,
+    first: &mut [u8],
+    second: &mut [u8],
+) -> u64
+    ensures { λ r. ⌜ simulated r (now (first .exit)) (now (second .exit)) ≡ numbered (simulation (clocked (now (netlist .entry)) (circuitOf faulted node site u) (now (first .entry)) (now (second .entry)))) ⌝ }
+{
+    let circuit = circuit_of(faulted, node, site, u);
+    number_of_step(circuit::simulate(netlist, circuit, first, second))
+}
