@@ -16,7 +16,7 @@ fn circuit_of(faulted: u8, node: u16, site: u8, u: u8) -> Circuit
     if faulted == 0 {
         return Circuit::Good;
     }
-    let place = circuit::fault::site_of(site);
+    let place = circuit::site_of(site);
     Circuit::Faulty(Fault {
         node,
         site: place,

@@ -4,7 +4,7 @@ use Rattle.capi.proofs.circuit_of.Statement.{statement}
 use Rattle.capi.proofs.circuit_of.Tie as tie
 use Rattle.capi.proofs.circuit_of.Reads as reads
 use Rattle.capi.proofs.circuit_of.Lts as lts
-use Rattle.circuit.proofs.fault.site_of.Reads as site-of-reads
+use Rattle.circuit.proofs.site_of.Reads as site-of-reads
 
 -- src/lib.rt:17:9
 returns : tie.Need-returns
