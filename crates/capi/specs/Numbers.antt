@@ -1,10 +1,11 @@
 -- Faults and answers as the numbers that a C program passes and gets.
 use mathlib.Core.Bool.{cond}
-use mathlib.Core.List.{List, [], _∷_}
+use mathlib.Core.List.{List}
 use Prim.Native.Nat.{_*_, _+_, ℕ}
 use lib.Dec.{eqb}
 use Rattle.circuit.specs.Answer.{Answer, answered, numberOf, refused}
 use Rattle.circuit.specs.Clock.{Outcome}
+use Rattle.circuit.specs.Lists.{at}
 use Rattle.circuit.specs.Fault.{siteOf}
 use Rattle.circuit.specs.declared.fault.Circuit.{Circuit}
 use Rattle.circuit.specs.declared.fault.Fault.{Fault}
@@ -17,14 +18,9 @@ abbrev pub circuitOf : ℕ → ℕ → ℕ → ℕ → Circuit
 circuitOf faulted node site u = cond (eqb faulted 0) Circuit.Good (Circuit.Faulty (faultOf node site u))
 
 -- the reader's answer: the refusal's number, or 2^32 + 65,536 × N + P for a sound netlist
-abbrev pub soundNumber : List ℕ → ℕ
-soundNumber [] = 0
-soundNumber (n ∷ []) = 0
-soundNumber (n ∷ p ∷ vs) = 4294967296 + 65536 * n + p
-
 abbrev pub readNumber : Answer → ℕ
 readNumber (refused k) = k
-readNumber (answered vs) = soundNumber vs
+readNumber (answered vs) = 4294967296 + 65536 * at vs 0 + at vs 1
 
 -- what a simulator call leaves: the number of its answer, and the bytes of both slices
 pub record NumberedOutcome : Type 0 where
@@ -32,9 +28,9 @@ pub record NumberedOutcome : Type 0 where
   pub first : List ℕ
   pub second : List ℕ
 
-abbrev pub simulated : ℕ → List ℕ → List ℕ → NumberedOutcome
-simulated r v w = record { number = r; first = v; second = w }
+abbrev pub numberedOutcome : ℕ → List ℕ → List ℕ → NumberedOutcome
+numberedOutcome r v w = record { number = r; first = v; second = w }
 
 -- done is 0
 abbrev pub numbered : Outcome → NumberedOutcome
-numbered o = simulated (numberOf (o .answer)) (o .first) (o .second)
+numbered o = numberedOutcome (numberOf (o .answer)) (o .first) (o .second)

@@ -1,10 +1,11 @@
 // The kit for C and other languages: numbers and byte slices alone. A slice is passed as a
-// pointer and then a length. Every function is total: any arguments get an answer.
+// pointer and then a length: the caller sees that the pointer is valid for that length and that a
+// slice that is written overlaps no other. Any numbers and any bytes then get an answer.
 ghost use mathlib.Core.Path.{_≡_};
 ghost use Rattle.circuit.specs.Answer.{numberOf};
 ghost use Rattle.circuit.specs.Netlist.{reading, readingSays};
-ghost use Rattle.circuit.specs.Clock.{clocked, simulation, steppedSays};
-ghost use Rattle.capi.specs.Numbers.{circuitOf, readNumber, simulated, numbered};
+ghost use Rattle.circuit.specs.Clock.{simulatorCall, simulation, steppedSays};
+ghost use Rattle.capi.specs.Numbers.{circuitOf, readNumber, numberedOutcome, numbered};
 use circuit::Circuit;
 use circuit::Fault;
 use circuit::Reading;
@@ -62,7 +63,7 @@ pub extern "C" fn leverpeach_simulate(
     first: &mut [u8],
     second: &mut [u8],
 ) -> u64
-    ensures { λ r. ⌜ simulated r (now (first .exit)) (now (second .exit)) ≡ numbered (simulation (clocked (now (netlist .entry)) (circuitOf faulted node site u) (now (first .entry)) (now (second .entry)))) ⌝ }
+    ensures { λ r. ⌜ numberedOutcome r (now (first .exit)) (now (second .exit)) ≡ numbered (simulation (simulatorCall (now (netlist .entry)) (circuitOf faulted node site u) (now (first .entry)) (now (second .entry)))) ⌝ }
 {
     let circuit = circuit_of(faulted, node, site, u);
     number_of_step(circuit::simulate(netlist, circuit, first, second))

@@ -10,7 +10,7 @@ use Rattle.circuit.proofs.ClockLaws.{given-kind, seenList-agree, seenNe
 use Rattle.circuit.proofs.GateLaws.{Binary, gate-binary, stuck-binary}
 use Rattle.circuit.proofs.ListLaws.{bcons, bnil}
 use Rattle.circuit.specs.Answer.{answered}
-use Rattle.circuit.specs.Clock.{Clocked, latchedBy, latchedList, outcome, pinValues, seenBy, seenList, stepped}
+use Rattle.circuit.specs.Clock.{SimulatorCall, latchedBy, latchedList, outcome, pinValues, seenBy, seenList, clockStep}
 use Rattle.circuit.specs.ClockLists.{ClockList, InputBits, LatchedBits, clockStart, first-clock, latchedAfter, latchedAtEnd, no-clocks, run, seenAfter}
 use Rattle.circuit.specs.Fault.{StuckLines, linesIn}
 use Rattle.circuit.specs.Kind.{gate, isFlipFlop, isGiven}
@@ -72,9 +72,9 @@ module _ (c : Net) (s : StuckLines) where
   latched-append (x ∷ xs) ys l = latched-append xs ys (latchedAfter c s x l)
 
 -- what the simulator leaves in its slices is one clock of a run, if the first slice held the clock's inputs and the latched values
-pub stepped-clock : (a : Clocked) (x l : List ℕ) → SameAt (netOf (a .netlist)) 0 (at (a .first)) (at x) → SameAt (netOf (a .netlist)) 2 (at (a .first)) (at l)
-    → stepped a ≡ outcome (answered []) (seenAfter (netOf (a .netlist)) (linesIn (a .circuit)) x l) (latchedAfter (netOf (a .netlist)) (linesIn (a .circuit)) x l)
-unfolding stepped latchedAfter
+pub stepped-clock : (a : SimulatorCall) (x l : List ℕ) → SameAt (netOf (a .netlist)) 0 (at (a .first)) (at x) → SameAt (netOf (a .netlist)) 2 (at (a .first)) (at l)
+    → clockStep a ≡ outcome (answered []) (seenAfter (netOf (a .netlist)) (linesIn (a .circuit)) x l) (latchedAfter (netOf (a .netlist)) (linesIn (a .circuit)) x l)
+unfolding clockStep latchedAfter
 stepped-clock a x l hx hl =
     ap (λ (v : List ℕ). outcome (answered []) v (latchedList (netOf (a .netlist)) (linesIn (a .circuit)) (at v)))
     (seen-clock (netOf (a .netlist)) (linesIn (a .circuit)) (at (a .first)) x l hx hl)

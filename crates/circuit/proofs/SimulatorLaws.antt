@@ -10,20 +10,20 @@ use lib.ListN.{length}
 use borrow.Author.Tests.{eq-eqb, eqb-true, leb-true, ne-eqb}
 use Rattle.circuit.proofs.BoolLaws.{and-left, and-right}
 use Rattle.circuit.proofs.ListLaws.{every-at}
-use Rattle.circuit.proofs.RefusalLaws.{FirstFails, Passed, refusal-at, refusal-by, refusal-none}
+use Rattle.circuit.proofs.RefusalLaws.{FirstFails, NoneSmaller, Passed, refusal-at, refusal-by, refusal-none, refusal-smallest}
 use Rattle.circuit.proofs.RunLaws.{stepped-clock}
 use Rattle.circuit.proofs.SoundLaws.{answered-sound}
 use Rattle.circuit.specs.Answer.{Answer, answered, refusal, refused}
-use Rattle.circuit.specs.Clock.{Clocked, Outcome, outcome, placeReadable, simulation, simulatorTests, slicesFit, stepped, turnedBack}
+use Rattle.circuit.specs.Clock.{SimulatorCall, Outcome, outcome, placeFits, simulation, simulatorTests, slicesFit, clockStep, turnedBack}
 use Rattle.circuit.specs.ClockLists.{InputBits, LatchedBits, latchedAfter, seenAfter}
 use Rattle.circuit.specs.Fault.{linesIn}
 use Rattle.circuit.specs.Kind.{isGiven}
 use Rattle.circuit.specs.Lists.{at, every}
 use Rattle.circuit.specs.Netlist.{Net, netOf, nodeCount, pinCount, reading, sound}
 
-module _ (a : Clocked) where
+module _ (a : SimulatorCall) where
   abbrev tested : Option ℕ → Outcome
-  tested r = elim r [ some k ↦ turnedBack k a | none ↦ stepped a ]
+  tested r = elim r [ some k ↦ turnedBack k a | none ↦ clockStep a ]
 
   abbrev read-then : Answer → Outcome
   read-then r = elim r [ refused k ↦ turnedBack k a | answered _ ↦ tested (refusal simulatorTests a) ]
@@ -39,9 +39,13 @@ module _ (a : Clocked) where
   simulation-refused k e f = ap read-then e ∙ ap tested (refusal-at simulatorTests a k f)
 
   -- and the clock step is done where all tests pass
-  pub simulation-done : {vs : List ℕ} → reading (a .netlist) ≡ answered vs → Passed simulatorTests a → simulation a ≡ stepped a
+  pub simulation-done : {vs : List ℕ} → reading (a .netlist) ≡ answered vs → Passed simulatorTests a → simulation a ≡ clockStep a
   unfolding simulation
   simulation-done e t = ap read-then e ∙ ap tested (refusal-by simulatorTests a t)
+
+-- its tests stand in the order of their numbers, so the smallest number that applies is given
+pub simulation-smallest : (a : SimulatorCall) (k : ℕ) → FirstFails a k simulatorTests → NoneSmaller k simulatorTests a
+simulation-smallest a k f = refusal-smallest 0 simulatorTests a k (omega arith, (omega arith, tt)) f
 
 -- the test of the slices, as it goes on from one part to the next
 module _ (c : Net) (v w : List ℕ) (n : ℕ) (e : n ≡ c .size) where
@@ -53,7 +57,7 @@ module _ (c : Net) (v w : List ℕ) (n : ℕ) (e : n ≡ c .size) where
   unfolding slicesFit
   slices-second g h = rw (← e, eq-eqb (length v) n g, ne-eqb (length w) n h)
 
-  pub slices-places : length v ≡ n → length w ≡ n → every (placeReadable c v) n ≡ slicesFit c v w
+  pub slices-places : length v ≡ n → length w ≡ n → every (placeFits c v) n ≡ slicesFit c v w
   unfolding slicesFit
   slices-places g h = rw e (rw (eq-eqb (length v) (c .size) (g ∙ e), eq-eqb (length w) (c .size) (h ∙ e)))
 
@@ -65,17 +69,17 @@ pub record Fitting (c : Net) (first second : List ℕ) : Type 0 where
   pub latched : LatchedBits c first
 
 pub slices-fitting : (c : Net) (first second : List ℕ) → slicesFit c first second ≡ true → Fitting c first second
-unfolding slicesFit placeReadable InputBits LatchedBits
+unfolding slicesFit placeFits InputBits LatchedBits
 slices-fitting c first second e =
     record {
-      first-size = eqb-true (length first) (c .size) (and-left (eqb (length first) (c .size)) (eqb (length second) (c .size) && every (placeReadable c first) (c .size)) e);
-      second-size = eqb-true (length second) (c .size) (and-left (eqb (length second) (c .size)) (every (placeReadable c first) (c .size)) rest);
+      first-size = eqb-true (length first) (c .size) (and-left (eqb (length first) (c .size)) (eqb (length second) (c .size) && every (placeFits c first) (c .size)) e);
+      second-size = eqb-true (length second) (c .size) (and-left (eqb (length second) (c .size)) (every (placeFits c first) (c .size)) rest);
       inputs = λ n h q. low n h (rw q);
       latched = λ n h q. low n h (rw q);
     }
   where
-    rest : (eqb (length second) (c .size) && every (placeReadable c first) (c .size)) ≡ true
-    rest = and-right (eqb (length first) (c .size)) (eqb (length second) (c .size) && every (placeReadable c first) (c .size)) e
+    rest : (eqb (length second) (c .size) && every (placeFits c first) (c .size)) ≡ true
+    rest = and-right (eqb (length first) (c .size)) (eqb (length second) (c .size) && every (placeFits c first) (c .size)) e
 
     readable : (b d : Bool) → (not b || d) ≡ true → b ≡ true → d ≡ true
     readable true d e q = e
@@ -83,18 +87,18 @@ slices-fitting c first second e =
 
     low : (n : ℕ) → n < c .size → isGiven (c .kind n) ≡ true → at first n < 2
     low n h q =
-        let l = leb-true (at first n) 1 (readable (isGiven (c .kind n)) (leb (at first n) 1) (every-at (placeReadable c first) (c .size) (and-right (eqb (length second) (c .size)) (every (placeReadable c first) (c .size)) rest) n h) q) in
+        let l = leb-true (at first n) 1 (readable (isGiven (c .kind n)) (leb (at first n) 1) (every-at (placeFits c first) (c .size) (and-right (eqb (length second) (c .size)) (every (placeFits c first) (c .size)) rest) n h) q) in
         omega arith
 
 -- what the answer done says: the netlist is sound, and the tests pass
-pub record Done (a : Clocked) : Type 0 where
+pub record Done (a : SimulatorCall) : Type 0 where
   pub sound-netlist : reading (a .netlist) ≡ sound (nodeCount (a .netlist)) (pinCount (a .netlist))
   pub passed : Passed simulatorTests a
   pub slices : Fitting (netOf (a .netlist)) (a .first) (a .second)
 
-pub done : (a : Clocked) → simulation a .answer ≡ answered [] → Done a
+pub done-says : (a : SimulatorCall) → simulation a .answer ≡ answered [] → Done a
 unfolding simulation
-done a e = go (reading (a .netlist)) refl e
+done-says a e = go (reading (a .netlist)) refl e
   where
     tests : (r : Option ℕ) → refusal simulatorTests a ≡ r → tested a r .answer ≡ answered [] → Passed simulatorTests a
     tests none q e = refusal-none simulatorTests a q
@@ -107,8 +111,8 @@ done a e = go (reading (a .netlist)) refl e
         record { sound-netlist = answered-sound (a .netlist) vs q; passed = t; slices = slices-fitting (netOf (a .netlist)) (a .first) (a .second) (t .1 .0) }
 
 -- done: one clock of a run, from the inputs and the latched values that the first slice held
-pub done-clock : (a : Clocked) → simulation a .answer ≡ answered []
+pub done-clock : (a : SimulatorCall) → simulation a .answer ≡ answered []
     → simulation a ≡ outcome (answered []) (seenAfter (netOf (a .netlist)) (linesIn (a .circuit)) (a .first) (a .first)) (latchedAfter (netOf (a .netlist)) (linesIn (a .circuit)) (a .first) (a .first))
 done-clock a e =
-    let d = done a e in
+    let d = done-says a e in
     simulation-done a (d .sound-netlist) (d .passed) ∙ stepped-clock a (a .first) (a .first) (λ _ _ _. refl) (λ _ _ _. refl)

@@ -4,7 +4,7 @@ use mathlib.Core.Path.{_≡_, refl}
 use Prim.Native.Nat.{_*_, ℕ}
 use lib.ListN.{replicate}
 use Rattle.circuit.specs.Answer.{answered, refused}
-use Rattle.circuit.specs.Clock.{Clocked, latchedBy, latchedList, outcome, pinValues, placeReadable, seenBy, seenList, simulation, slicesFit, stepped, turnedBack}
+use Rattle.circuit.specs.Clock.{SimulatorCall, latchedBy, latchedList, outcome, pinValues, placeFits, seenBy, seenList, simulation, slicesFit, clockStep, turnedBack}
 use Rattle.circuit.specs.Fault.{circuitExists, faultExists, linesIn, linesOf}
 use Rattle.circuit.specs.Kind.{gate, ruleOf}
 use Rattle.circuit.specs.Lists.{build, every}
@@ -79,7 +79,7 @@ readings =
     }
 
 -- P1 with the input and the latched values of b and c; the places of the other nodes are not read
-abbrev p1-clock : Circuit → ℕ → ℕ → ℕ → Clocked
+abbrev p1-clock : Circuit → ℕ → ℕ → ℕ → SimulatorCall
 p1-clock x a b c = record { netlist = p1; circuit = x; first = a ∷ b ∷ c ∷ 9 ∷ 9 ∷ 9 ∷ []; second = 7 ∷ 7 ∷ 7 ∷ 7 ∷ 7 ∷ 7 ∷ [] }
 
 abbrev stuck-at-1 : ℕ → Site → Circuit
@@ -100,5 +100,5 @@ pub record Steps : Type 0 where
 
 pub steps : Steps
 unfolding reading sizesAllowed every kindKnown pairJoined pairStart countFits ruleOf sourcesAllowed sourceAllowed sourceOf
-    simulation circuitExists faultExists slicesFit placeReadable stepped linesIn linesOf netOf pinsOf build seenList seenBy pinValues gate latchedList latchedBy
+    simulation circuitExists faultExists slicesFit placeFits clockStep linesIn linesOf netOf pinsOf build seenList seenBy pinValues gate latchedList latchedBy
 steps = record { good = refl; stuck-pin = refl; stuck-node = refl; stuck-latch = refl; pin-of-input = refl; input-2 = refl }

@@ -10,7 +10,7 @@ use Rattle.circuit.specs.declared.fault.Fault.{Fault}
 use Rattle.circuit.specs.declared.fault.Site.{Site}
 use Rattle.circuit.specs.declared.fault.Site.the-variants.{Pin, Whole}
 
--- the stuck value of a node, and of pin k of a node; 2 where the line is not stuck
+-- the stuck value of a node, and of pin k of a node; 2 or more where the line is not stuck
 pub record StuckLines : Type 0 where
   pub node : ℕ → ℕ
   pub pin : ℕ → ℕ → ℕ
@@ -43,14 +43,15 @@ unfoldable pub linesIn : Circuit → StuckLines
 linesIn Good = noneStuck
 linesIn (Faulty f) = linesOf f
 
--- refusal 9: the node, the site and the stuck value are there. m is the number of the node's pins.
+-- m is the number of the node's pins
 abbrev pub siteExists : Site → ℕ → Bool
 siteExists Whole m = true
 siteExists (Pin j) m = ltb j m
 
+-- refusal 9: the netlist has the node and the site, and u is 0 or 1
 unfoldable pub faultExists : Net → Fault → Bool
-faultExists c f = ltb (f .node) (c .size) && (siteExists (f .site) (length (c .pins (f .node))) && leb (f .stuck) 1)
+faultExists net f = ltb (f .node) (net .size) && (siteExists (f .site) (length (net .pins (f .node))) && leb (f .stuck) 1)
 
 unfoldable pub circuitExists : Net → Circuit → Bool
-circuitExists c Good = true
-circuitExists c (Faulty f) = faultExists c f
+circuitExists net Good = true
+circuitExists net (Faulty f) = faultExists net f

@@ -1,8 +1,8 @@
--- 01, "Kind": what each kind number decides. Each thing that depends on the kind stands here, once.
+-- 01, "Kind": what each kind number decides. Pin limits and gate functions stand here, once.
 use mathlib.Core.Bool.{Bool, _||_, false, true}
 use mathlib.Core.List.{List, [], _∷_}
 use Prim.Native.Nat.{ℕ}
-use lib.Dec.{eqb}
+use lib.Dec.{eqb, leb}
 use lib.ListN.{getD}
 use Rattle.circuit.specs.Value.{and₂, neg, or₂, xor₂}
 use Rattle.circuit.specs.declared.kind.Gate.{Gate}
@@ -57,6 +57,9 @@ invertedIf false v = v
 -- the value that a node of kind k makes of its pins' values
 unfoldable pub gate : ℕ → List ℕ → ℕ
 gate k vs = invertedIf (ruleOf k .inverted) (functionOf (ruleOf k .gate) vs)
+
+abbrev pub isKind : ℕ → Bool
+isKind k = leb k 10
 
 abbrev pub isInput : ℕ → Bool
 isInput k = eqb k 0

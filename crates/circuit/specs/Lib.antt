@@ -1,4 +1,4 @@
--- What a reader must believe of this crate, in the order of document 01.
+-- What a reader must believe of this crate; each file uses only those above it.
 pub mod Lists
 pub mod Answer
 pub mod Value

@@ -6,7 +6,7 @@ use Prim.Native.Nat.{_*_, _+_, suc, zero, ℕ}
 use lib.Dec.{eqb, leb, ltb}
 use lib.ListN.{length}
 use Rattle.circuit.specs.Answer.{Answer, Test, answered, refusal, refused}
-use Rattle.circuit.specs.Kind.{isFlipFlop, isOutput, ruleOf}
+use Rattle.circuit.specs.Kind.{isFlipFlop, isKind, isOutput, ruleOf}
 use Rattle.circuit.specs.Lists.{at, every, table}
 use Rattle.circuit.specs.declared.netlist.Reading.{Reading}
 
@@ -59,7 +59,7 @@ module _ (bs : List ℕ) where
   pairStart (suc n) = offsetOf n + lengthOf n
 
   unfoldable pub kindKnown : ℕ → Bool
-  kindKnown n = leb (kindOf n) 10
+  kindKnown n = isKind (kindOf n)
 
   unfoldable pub pairJoined : ℕ → Bool
   pairJoined n = eqb (offsetOf n) (pairStart n)

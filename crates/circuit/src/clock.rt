@@ -7,16 +7,16 @@ ghost use Rattle.circuit.specs.Netlist.{kindOf, netOf, pinCount, reading
 ghost use Rattle.circuit.specs.Kind.{gate};
 ghost use Rattle.circuit.specs.Value.{stuckOr};
 ghost use Rattle.circuit.specs.Fault.{linesIn};
-ghost use Rattle.circuit.specs.Clock.{pinValues, seenBy, seenList, latchedBy, latchedList, placeReadable, slicesFit, clocked, outcome, simulation, steppedSays};
+ghost use Rattle.circuit.specs.Clock.{pinValues, seenBy, seenList, latchedBy, latchedList, placeFits, slicesFit, simulatorCall, outcome, simulation, steppedSays};
 use crate::bytes::byte_at;
 use crate::bytes::store;
 use crate::fault::Circuit;
+use crate::fault::NOT_STUCK;
 use crate::fault::circuit_exists;
 use crate::fault::stuck_node;
 use crate::fault::stuck_or;
 use crate::fault::stuck_pin;
 use crate::kind::FLIP_FLOP;
-use crate::kind::UNKNOWN;
 use crate::kind::inverted_if;
 use crate::kind::is_given;
 use crate::kind::join_of;
@@ -64,7 +64,7 @@ fn seen_value(netlist: &[u8], circuit: Circuit, seen: &[u8], node: u16) -> u8
     ensures { λ r. ⌜ r ≡ seenBy (netOf (now (netlist .entry))) (linesIn circuit) (at (now (seen .entry))) (at (now (seen .entry))) node ⌝ }
 {
     let stuck = stuck_node(circuit, node);
-    if stuck < UNKNOWN {
+    if stuck < NOT_STUCK {
         return stuck;
     }
     if is_given(kind_of(netlist, node)) {
@@ -114,19 +114,19 @@ fn latch(netlist: &[u8], n: u16, circuit: Circuit, seen: &[u8], second: &mut [u8
     }
 }
 
-// The place of an input or a flip-flop is read, and holds 0 or 1; other places are not read.
-fn place_readable(netlist: &[u8], first: &[u8], node: u16) -> bool
-    ensures { λ r. ⌜ r ≡ placeReadable (netOf (now (netlist .entry))) (now (first .entry)) node ⌝ }
+// The places of inputs and flip-flops are read, and have to hold 0 or 1.
+fn place_fits(netlist: &[u8], first: &[u8], node: u16) -> bool
+    ensures { λ r. ⌜ r ≡ placeFits (netOf (now (netlist .entry))) (now (first .entry)) node ⌝ }
 {
     !is_given(kind_of(netlist, node)) || byte_at(first, node as usize) <= 1
 }
 
-fn places_readable(netlist: &[u8], n: u16, first: &[u8]) -> bool
-    ensures { λ r. ⌜ r ≡ every (placeReadable (netOf (now (netlist .entry))) (now (first .entry))) n ⌝ }
+fn places_fit(netlist: &[u8], n: u16, first: &[u8]) -> bool
+    ensures { λ r. ⌜ r ≡ every (placeFits (netOf (now (netlist .entry))) (now (first .entry))) n ⌝ }
 {
     let mut node: u16 = 0;
     while node < n {
-        if !place_readable(netlist, first, node) {
+        if !place_fits(netlist, first, node) {
             return false;
         }
         node += 1;
@@ -138,12 +138,13 @@ fn slices_fit(netlist: &[u8], n: u16, first: &[u8], second: &[u8]) -> bool
     requires { ⌜ n ≡ netOf (now netlist) .size ⌝ }
     ensures { λ r. ⌜ r ≡ slicesFit (netOf (now (netlist .entry))) (now (first .entry)) (now (second .entry)) ⌝ }
 {
-    first.len() == n as usize && (second.len() == n as usize && places_readable(netlist, n, first))
+    first.len() == n as usize && (second.len() == n as usize && places_fit(netlist, n, first))
 }
 
-// One clock step. Once it is done the first slice holds the seen values, the second what is latched.
+// One clock step. Once it is done the first slice holds the seen values, the second what is latched;
+// a refusal alters neither.
 pub fn simulate(netlist: &[u8], circuit: Circuit, first: &mut [u8], second: &mut [u8]) -> Stepped
-    ensures { λ r. ⌜ outcome (steppedSays r) (now (first .exit)) (now (second .exit)) ≡ simulation (clocked (now (netlist .entry)) circuit (now (first .entry)) (now (second .entry))) ⌝ }
+    ensures { λ r. ⌜ outcome (steppedSays r) (now (first .exit)) (now (second .exit)) ≡ simulation (simulatorCall (now (netlist .entry)) circuit (now (first .entry)) (now (second .entry))) ⌝ }
 {
     let answer = read(netlist);
     let Reading::Sound(n, _) = answer else {

@@ -3,7 +3,6 @@ ghost use mathlib.Core.Path.{_≡_};
 ghost use Rattle.circuit.specs.Value.{stuckOr};
 ghost use Rattle.circuit.specs.Netlist.{netOf};
 ghost use Rattle.circuit.specs.Fault.{siteOf, isWhole, isPin, siteExists, faultExists, circuitExists, linesIn};
-use crate::kind::UNKNOWN;
 use crate::netlist::length_of;
 use crate::netlist::node_count;
 
@@ -13,11 +12,15 @@ pub enum Site {
     Pin(u8),
 }
 
+// A line stuck at a value, 0 or 1 (document 01's u). Any other value is refused where a fault is taken.
 pub struct Fault {
     pub node: u16,
     pub site: Site,
     pub stuck: u8,
 }
+
+// What a line that is not stuck is said to be stuck at.
+pub const NOT_STUCK: u8 = 2;
 
 // The circuit as it was meant, or with a fault.
 pub enum Circuit {
@@ -53,35 +56,35 @@ fn is_pin(site: Site, pin: u16) -> bool
     }
 }
 
-// The value that a node is stuck at, UNKNOWN where it is not stuck.
+// The value that a node is stuck at, NOT_STUCK where it is not stuck.
 pub fn stuck_node(circuit: Circuit, node: u16) -> u8
     ensures { λ r. ⌜ r ≡ linesIn circuit .node node ⌝ }
 {
     match circuit {
-        Circuit::Good => UNKNOWN,
+        Circuit::Good => NOT_STUCK,
         Circuit::Faulty(fault) => {
             let site = fault.site;
             if fault.node == node && is_whole(site) {
                 fault.stuck
             } else {
-                UNKNOWN
+                NOT_STUCK
             }
         }
     }
 }
 
-// The value that a pin is stuck at, UNKNOWN where it is not stuck.
+// The value that a pin is stuck at, NOT_STUCK where it is not stuck.
 pub fn stuck_pin(circuit: Circuit, node: u16, pin: u16) -> u8
     ensures { λ r. ⌜ r ≡ linesIn circuit .pin node pin ⌝ }
 {
     match circuit {
-        Circuit::Good => UNKNOWN,
+        Circuit::Good => NOT_STUCK,
         Circuit::Faulty(fault) => {
             let site = fault.site;
             if fault.node == node && is_pin(site, pin) {
                 fault.stuck
             } else {
-                UNKNOWN
+                NOT_STUCK
             }
         }
     }
@@ -91,7 +94,7 @@ pub fn stuck_pin(circuit: Circuit, node: u16, pin: u16) -> u8
 pub fn stuck_or(stuck: u8, own: u8) -> u8
     ensures { λ r. ⌜ r ≡ stuckOr stuck own ⌝ }
 {
-    if stuck < UNKNOWN { stuck } else { own }
+    if stuck < NOT_STUCK { stuck } else { own }
 }
 
 fn site_exists(site: Site, count: u16) -> bool

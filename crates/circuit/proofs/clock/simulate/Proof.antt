@@ -3,7 +3,7 @@ use denote.Ref.{now}
 use borrow.Author.Tests.{not-true, not-false}
 use Rattle.circuit.specs.Netlist.{netOf, pinCount, reading, sound, readingSays}
 use Rattle.circuit.specs.Answer.{refused, answered}
-use Rattle.circuit.specs.Clock.{clocked, outcome, stepped, steppedSays}
+use Rattle.circuit.specs.Clock.{simulatorCall, outcome, clockStep, steppedSays}
 use Rattle.circuit.proofs.RefusalLaws.{fails-here, fails-later}
 use Rattle.circuit.proofs.SoundLaws.{facts, sound-size}
 use Rattle.circuit.proofs.SimulatorLaws.{simulation-unsound, simulation-refused, simulation-done, slices-fitting}
@@ -39,7 +39,7 @@ refusal-number-requires c κs = search needs
 returns : tie.Need-returns
 returns c = let a = c .before .before .before .before .before .before .before .args in
     let s = now (a .netlist) in
-    let q = clocked s (a .circuit) (now (a .first)) (now (a .second)) in
+    let q = simulatorCall s (a .circuit) (now (a .first)) (now (a .second)) in
     let e = sym (c .before .before .before .read .ensures) ∙ ap readingSays (c .before .enum-told .given .1) in
     rw (c .refusal-number .ensures, c .before .enum-told .given .1) (sym (simulation-unsound q _ e))
 
@@ -51,7 +51,7 @@ circuit-exists-requires c κs = search needs
 returns-2 : tie.Need-returns-2
 returns-2 c = let a = c .before .before .before .before .before .before .before .before .before .args in
     let s = now (a .netlist) in
-    let q = clocked s (a .circuit) (now (a .first)) (now (a .second)) in
+    let q = simulatorCall s (a .circuit) (now (a .first)) (now (a .second)) in
     let n = c .before .before .before .answer .given .0 .0 in
     let p = c .before .before .before .answer .given .0 .1 .0 in
     let e : reading s ≡ sound n p = sym (c .before .before .before .before .before .read .ensures) ∙ ap readingSays (c .before .before .before .answer .given .1) in
@@ -78,7 +78,7 @@ same-length-2 c = search needs
 returns-3 : tie.Need-returns-3
 returns-3 c = let a = c .before .before .before .before .before .before .before .before .before .before .before .before .before .args in
     let s = now (a .netlist) in
-    let q = clocked s (a .circuit) (now (a .first)) (now (a .second)) in
+    let q = simulatorCall s (a .circuit) (now (a .first)) (now (a .second)) in
     let n = c .before .before .before .before .before .before .before .answer .given .0 .0 in
     let p = c .before .before .before .before .before .before .before .answer .given .0 .1 .0 in
     let e : reading s ≡ sound n p = sym (c .before .before .before .before .before .before .before .before .before .read .ensures) ∙ ap readingSays (c .before .before .before .before .before .before .before .answer .given .1) in
@@ -115,10 +115,10 @@ same-length-4 c = search needs
 
 -- src/clock.rt:145:1
 returns-4 : tie.Need-returns-4
-unfolding stepped
+unfolding clockStep
 returns-4 c = let a = c .before .before .before .before .before .before .before .before .before .before .before .before .before .before .before .before .before .before .before .before .before .before .args in
     let s = now (a .netlist) in
-    let q = clocked s (a .circuit) (now (a .first)) (now (a .second)) in
+    let q = simulatorCall s (a .circuit) (now (a .first)) (now (a .second)) in
     let n = c .before .before .before .before .before .before .before .before .before .before .before .before .before .before .before .before .answer .given .0 .0 in
     let p = c .before .before .before .before .before .before .before .before .before .before .before .before .before .before .before .before .answer .given .0 .1 .0 in
     let e : reading s ≡ sound n p = sym (c .before .before .before .before .before .before .before .before .before .before .before .before .before .before .before .before .before .before .read .ensures) ∙ ap readingSays (c .before .before .before .before .before .before .before .before .before .before .before .before .before .before .before .before .answer .given .1) in

@@ -1,7 +1,7 @@
 use mathlib.Core.Bool.{true}
 use borrow.Author.Tests.{not-true, not-false}
 use Rattle.circuit.specs.Netlist.{netOf}
-use Rattle.circuit.specs.Clock.{placeReadable}
+use Rattle.circuit.specs.Clock.{placeFits}
 use Rattle.circuit.specs.Lists.{every}
 use Rattle.circuit.proofs.ListLaws.{every-more, every-fails, every-done}
 use denote.Ref.{now}
@@ -9,14 +9,14 @@ use Prim.Native.Nat.{ℕ, _≤_, _-_, _<_, _+_, suc}
 use mathlib.Core.Path.{_≡_, refl, sym, _∙_, ap}
 use native.Mathlib.Omega.{arith}
 use borrow.Author.Needs.{needs}
-use Rattle.circuit.proofs.clock.places_readable.Statement.{statement}
-use Rattle.circuit.proofs.clock.places_readable.Tie as tie
-use Rattle.circuit.proofs.clock.places_readable.Reads as reads
-use Rattle.circuit.proofs.clock.places_readable.Lts as lts
-use Rattle.circuit.proofs.clock.place_readable.Reads as place-readable-reads
+use Rattle.circuit.proofs.clock.places_fit.Statement.{statement}
+use Rattle.circuit.proofs.clock.places_fit.Tie as tie
+use Rattle.circuit.proofs.clock.places_fit.Reads as reads
+use Rattle.circuit.proofs.clock.places_fit.Lts as lts
+use Rattle.circuit.proofs.clock.place_fits.Reads as place-fits-reads
 
 abbrev Inv-loop : tie.InvT-loop
-Inv-loop netlist n first node₀ node = (node ≤ n) × (every (placeReadable (netOf netlist) first) node ≡ true)
+Inv-loop netlist n first node₀ node = (node ≤ n) × (every (placeFits (netOf netlist) first) node ≡ true)
 
 abbrev μ-loop : tie.MeasureT-loop
 μ-loop netlist n first node₀ node = n - node
@@ -27,13 +27,13 @@ unfolding every
 loop-holds c = (omega arith, refl)
 
 -- src/clock.rt:129:13
-place-readable-requires : tie.Need-place-readable-requires Inv-loop μ-loop
-place-readable-requires c κs = search needs
+place-fits-requires : tie.Need-place-fits-requires Inv-loop μ-loop
+place-fits-requires c κs = search needs
 
 -- src/clock.rt:130:13
 returns : tie.Need-returns Inv-loop μ-loop
 returns c = let a = c .before .before .before .before .before .before .args in
-    sym (every-fails (placeReadable (netOf (now (a .netlist))) (now (a .first))) _ (c .before .before .before .loop .node) (c .before .before .loop-test .taken) (sym (c .before .place-readable .ensures) ∙ not-true _ (c .if1 .taken)))
+    sym (every-fails (placeFits (netOf (now (a .netlist))) (now (a .first))) _ (c .before .before .before .loop .node) (c .before .before .loop-test .taken) (sym (c .before .place-fits .ensures) ∙ not-true _ (c .if1 .taken)))
 
 -- src/clock.rt:132:9
 add-node : tie.Need-add-node Inv-loop μ-loop
@@ -47,22 +47,22 @@ loop-less c = omega arith
 loop-again : tie.Need-loop-again Inv-loop μ-loop
 loop-again c = let a = c .before .before .before .before .before .before .args in
     let l = c .before .before .before .loop in
-    (omega arith, every-more (placeReadable (netOf (now (a .netlist))) (now (a .first))) (l .node) (l .inv .1) (sym (c .before .place-readable .ensures) ∙ not-false _ (c .if1 .left)))
+    (omega arith, every-more (placeFits (netOf (now (a .netlist))) (now (a .first))) (l .node) (l .inv .1) (sym (c .before .place-fits .ensures) ∙ not-false _ (c .if1 .left)))
 
 -- src/clock.rt:124:1
 returns-2 : tie.Need-returns-2 Inv-loop μ-loop
 returns-2 c = let a = c .before .before .before .before .args in
     let l = c .before .loop in
-    every-done (placeReadable (netOf (now (a .netlist))) (now (a .first))) (l .node) _ (l .inv .1) (l .inv .0) (c .loop-test .left)
+    every-done (placeFits (netOf (now (a .netlist))) (now (a .first))) (l .node) _ (l .inv .1) (l .inv .0) (c .loop-test .left)
 
-pub places-readable-spec : {M : Type 1} → statement M
-places-readable-spec =
+pub places-fit-spec : {M : Type 1} → statement M
+places-fit-spec =
     tie.close
     (tie.spec
     Inv-loop
     μ-loop
     loop-holds
-    place-readable-requires
+    place-fits-requires
     returns
     add-node
     loop-less
