@@ -2,7 +2,7 @@
 ghost use mathlib.Core.Path.{_≡_};
 ghost use mathlib.Core.Bool.{_||_};
 ghost use lib.Dec.{eqb};
-ghost use Rattle.circuit.specs.Kind.{ruleOf, unitOf, joinOf, invertedIf, isGiven};
+ghost use Rattle.circuit.specs.Kind.{rule, ruleOf, unitOf, joinOf, invertedIf, isGiven};
 ghost use Rattle.circuit.specs.Value.{neg, and₂, or₂, xor₂};
 
 pub const INPUT: u8 = 0;
@@ -30,47 +30,28 @@ pub struct Rule {
     pub inverted: bool,
 }
 
+fn rule_with(least: u16, most: u16, gate: Gate, inverted: bool) -> Rule
+    ensures { λ r. ⌜ r ≡ rule least most gate inverted ⌝ }
+{
+    Rule {
+        least,
+        most,
+        gate,
+        inverted,
+    }
+}
+
 // The rule of a kind. No pin count fits a number that is no kind.
 pub fn rule_of(kind: u8) -> Rule
     ensures { λ r. ⌜ r ≡ ruleOf kind ⌝ }
 {
     match kind {
-        0 => Rule {
-            least: 0,
-            most: 0,
-            gate: Gate::Wire,
-            inverted: false,
-        },
-        1..=4 => Rule {
-            least: 1,
-            most: 1,
-            gate: Gate::Wire,
-            inverted: kind == 4,
-        },
-        5..=6 => Rule {
-            least: 2,
-            most: 8,
-            gate: Gate::And,
-            inverted: kind == 6,
-        },
-        7..=8 => Rule {
-            least: 2,
-            most: 8,
-            gate: Gate::Or,
-            inverted: kind == 8,
-        },
-        9..=10 => Rule {
-            least: 2,
-            most: 2,
-            gate: Gate::Xor,
-            inverted: kind == 10,
-        },
-        _ => Rule {
-            least: 1,
-            most: 0,
-            gate: Gate::Wire,
-            inverted: false,
-        },
+        0 => rule_with(0, 0, Gate::Wire, false),
+        1..=4 => rule_with(1, 1, Gate::Wire, kind == 4),
+        5..=6 => rule_with(2, 8, Gate::And, kind == 6),
+        7..=8 => rule_with(2, 8, Gate::Or, kind == 8),
+        9..=10 => rule_with(2, 2, Gate::Xor, kind == 10),
+        _ => rule_with(1, 0, Gate::Wire, false),
     }
 }
 
