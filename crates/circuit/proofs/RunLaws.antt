@@ -9,8 +9,8 @@ use lib.ListN.{getD, length}
 use Rattle.circuit.proofs.ClockLaws.{given-kind, seenList-agree, seenNext}
 use Rattle.circuit.proofs.GateLaws.{Binary, gate-binary, stuck-binary}
 use Rattle.circuit.proofs.ListLaws.{bcons, bnil}
-use Rattle.circuit.specs.Answer.{answered}
-use Rattle.circuit.specs.Clock.{SimulatorCall, latchedBy, latchedList, outcome, pinValues, seenBy, seenList, clockStep}
+use Rattle.circuit.specs.Answer.{answered, outcome}
+use Rattle.circuit.specs.Clock.{SimulatorCall, latchedBy, latchedList, pinValues, seenBy, seenList, clockStep}
 use Rattle.circuit.specs.ClockLists.{ClockList, InputBits, LatchedBits, clockStart, first-clock, latchedAfter, latchedAtEnd, no-clocks, run, seenAfter}
 use Rattle.circuit.specs.Fault.{StuckLines, linesIn}
 use Rattle.circuit.specs.Kind.{gate, isFlipFlop, isGiven}

@@ -13,8 +13,8 @@ use Rattle.circuit.proofs.ListLaws.{every-at}
 use Rattle.circuit.proofs.RefusalLaws.{FirstFails, NoneSmaller, Passed, refusal-at, refusal-by, refusal-none, refusal-smallest}
 use Rattle.circuit.proofs.RunLaws.{stepped-clock}
 use Rattle.circuit.proofs.SoundLaws.{answered-sound}
-use Rattle.circuit.specs.Answer.{Answer, answered, refusal, refused}
-use Rattle.circuit.specs.Clock.{SimulatorCall, Outcome, outcome, placeFits, simulation, simulatorTests, slicesFit, clockStep, turnedBack}
+use Rattle.circuit.specs.Answer.{Answer, Outcome, answered, outcome, refusal, refused}
+use Rattle.circuit.specs.Clock.{SimulatorCall, placeFits, simulation, simulatorTests, slicesFit, clockStep, turnedBack}
 use Rattle.circuit.specs.ClockLists.{InputBits, LatchedBits, latchedAfter, seenAfter}
 use Rattle.circuit.specs.Fault.{linesIn}
 use Rattle.circuit.specs.Kind.{isGiven}

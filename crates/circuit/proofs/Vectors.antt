@@ -3,8 +3,8 @@ use mathlib.Core.List.{List, [], _∷_}
 use mathlib.Core.Path.{_≡_, refl}
 use Prim.Native.Nat.{_*_, ℕ}
 use lib.ListN.{replicate}
-use Rattle.circuit.specs.Answer.{answered, refused}
-use Rattle.circuit.specs.Clock.{SimulatorCall, latchedBy, latchedList, outcome, pinValues, placeFits, seenBy, seenList, simulation, slicesFit, clockStep, turnedBack}
+use Rattle.circuit.specs.Answer.{answered, outcome, refused}
+use Rattle.circuit.specs.Clock.{SimulatorCall, latchedBy, latchedList, pinValues, placeFits, seenBy, seenList, simulation, slicesFit, clockStep, turnedBack}
 use Rattle.circuit.specs.Fault.{circuitExists, faultExists, linesIn, linesOf}
 use Rattle.circuit.specs.Kind.{gate, ruleOf}
 use Rattle.circuit.specs.Lists.{build, every}

@@ -14,6 +14,15 @@ abbrev pub numberOf : Answer → ℕ
 numberOf (refused k) = k
 numberOf (answered vs) = 0
 
+-- the answer, and what the two lent slices then hold
+pub record Outcome : Type 0 where
+  pub answer : Answer
+  pub first : List ℕ
+  pub second : List ℕ
+
+abbrev pub outcome : Answer → List ℕ → List ℕ → Outcome
+outcome a v w = record { answer = a; first = v; second = w }
+
 -- what has to hold, and the number of the refusal that is given where it does not.
 -- `passes` is a function, so that a later test is not computed before the earlier ones have passed.
 pub record Test (A : Type 0) : Type 0 where

@@ -5,7 +5,7 @@ use mathlib.Core.Option.{none, some}
 use Prim.Native.Nat.{ℕ}
 use lib.Dec.{eqb, leb}
 use lib.ListN.{length}
-use Rattle.circuit.specs.Answer.{Answer, Test, answered, refusal, refused}
+use Rattle.circuit.specs.Answer.{Answer, Outcome, Test, answered, outcome, refusal, refused}
 use Rattle.circuit.specs.Fault.{StuckLines, circuitExists, linesIn}
 use Rattle.circuit.specs.Kind.{gate, isFlipFlop, isGiven}
 use Rattle.circuit.specs.Lists.{at, build, every, indexed, table}
@@ -58,18 +58,9 @@ simulatorTests =
     ∷ record { number = 16; passes = λ a. slicesFit (netOf (a .netlist)) (a .first) (a .second) }
     ∷ []
 
--- the answer, and what both slices then hold
-pub record Outcome : Type 0 where
-  pub answer : Answer
-  pub first : List ℕ
-  pub second : List ℕ
-
 -- the answer done
 abbrev pub done : Answer
 done = answered []
-
-abbrev pub outcome : Answer → List ℕ → List ℕ → Outcome
-outcome a v w = record { answer = a; first = v; second = w }
 
 -- a refusal alters nothing
 abbrev pub turnedBack : ℕ → SimulatorCall → Outcome

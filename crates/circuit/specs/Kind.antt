@@ -50,6 +50,13 @@ abbrev pub functionOf : Gate → List ℕ → ℕ
 functionOf g [] = unitOf g
 functionOf g (v ∷ vs) = joinOf g v (functionOf g vs)
 
+-- the pin value that settles an AND or an OR by itself (for the others a value like any other)
+abbrev pub controlling : Gate → ℕ
+controlling Wire = 0
+controlling And = 0
+controlling Or = 1
+controlling Xor = 0
+
 abbrev pub invertedIf : Bool → ℕ → ℕ
 invertedIf true v = neg v
 invertedIf false v = v

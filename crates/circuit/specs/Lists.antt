@@ -1,5 +1,5 @@
 -- Lists made by rising index, and tests of every index below a number.
-use mathlib.Core.Bool.{Bool, _&&_, true}
+use mathlib.Core.Bool.{Bool, _&&_, _||_, false, true}
 use mathlib.Core.List.{List, [], _++_, _∷_}
 use Prim.Native.Nat.{suc, zero, ℕ}
 use lib.ListN.{getD}
@@ -21,6 +21,11 @@ table f n = build (λ _. f) n
 abbrev pub indexed : (ℕ → ℕ → ℕ) → ℕ → List ℕ → List ℕ
 indexed f k [] = []
 indexed f k (x ∷ xs) = f k x ∷ indexed f (suc k) xs
+
+-- some number below n passes the test
+unfoldable pub any : (ℕ → Bool) → ℕ → Bool
+any f zero = false
+any f (suc n) = any f n || f n
 
 -- every number below n passes the test
 unfoldable pub every : (ℕ → Bool) → ℕ → Bool

@@ -7,7 +7,8 @@ ghost use Rattle.circuit.specs.Netlist.{kindOf, netOf, pinCount, reading
 ghost use Rattle.circuit.specs.Kind.{gate};
 ghost use Rattle.circuit.specs.Value.{stuckOr};
 ghost use Rattle.circuit.specs.Fault.{linesIn};
-ghost use Rattle.circuit.specs.Clock.{pinValues, seenBy, seenList, latchedBy, latchedList, placeFits, slicesFit, simulatorCall, outcome, simulation, steppedSays};
+ghost use Rattle.circuit.specs.Answer.{outcome};
+ghost use Rattle.circuit.specs.Clock.{pinValues, seenBy, seenList, latchedBy, latchedList, placeFits, slicesFit, simulatorCall, simulation, steppedSays};
 use crate::bytes::byte_at;
 use crate::bytes::store;
 use crate::fault::Circuit;
