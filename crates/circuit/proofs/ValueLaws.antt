@@ -1,8 +1,10 @@
 -- Laws of the values of a line.
+use mathlib.Core.Bool.{false, not, true}
 use mathlib.Core.Path.{_≡_, refl}
 use Prim.Native.Nat.{_<_, _≤_, suc, zero, ℕ}
 use native.Mathlib.Omega.{arith}
-use Rattle.circuit.specs.Value.{and₂, neg, or₂, stuckOr, xor₂}
+use lib.Dec.{eqb}
+use Rattle.circuit.specs.Value.{and₂, differ, isUnknown, neg, or₂, stuckOr, xor₂}
 
 pub stuck-known : (s v : ℕ) → s < 2 → stuckOr s v ≡ s
 stuck-known zero v h = refl
@@ -46,3 +48,35 @@ pub xor-unknown : (v w : ℕ) → 2 ≤ v → xor₂ v w ≡ 2
 xor-unknown zero w h = absurd (omega arith)
 xor-unknown (suc zero) w h = absurd (omega arith)
 xor-unknown (suc (suc v)) w h = refl
+
+-- values differ where both are known and not equal
+pub differ-known : (v w : ℕ) → v < 2 → w < 2 → not (eqb v w) ≡ differ v w
+differ-known zero zero h g = refl
+differ-known zero (suc zero) h g = refl
+differ-known zero (suc (suc w)) h g = absurd (omega arith)
+differ-known (suc zero) zero h g = refl
+differ-known (suc zero) (suc zero) h g = refl
+differ-known (suc zero) (suc (suc w)) h g = absurd (omega arith)
+differ-known (suc (suc v)) w h g = absurd (omega arith)
+
+pub differ-unknown-first : (v w : ℕ) → 2 ≤ v → differ v w ≡ false
+differ-unknown-first zero w h = absurd (omega arith)
+differ-unknown-first (suc zero) w h = absurd (omega arith)
+differ-unknown-first (suc (suc v)) w h = refl
+
+pub differ-unknown : (v w : ℕ) → 2 ≤ w → differ v w ≡ false
+differ-unknown v zero h = absurd (omega arith)
+differ-unknown v (suc zero) h = absurd (omega arith)
+differ-unknown zero (suc (suc w)) h = refl
+differ-unknown (suc zero) (suc (suc w)) h = refl
+differ-unknown (suc (suc v)) (suc (suc w)) h = refl
+
+pub unknown-high : (v : ℕ) → 2 ≤ v → isUnknown v ≡ true
+unknown-high zero h = absurd (omega arith)
+unknown-high (suc zero) h = absurd (omega arith)
+unknown-high (suc (suc v)) h = refl
+
+pub known-low : (v : ℕ) → v < 2 → isUnknown v ≡ false
+known-low zero h = refl
+known-low (suc zero) h = refl
+known-low (suc (suc v)) h = absurd (omega arith)
