@@ -8,7 +8,7 @@ use native.Mathlib.Omega.{arith}
 use lib.Dec.{eqb}
 use lib.ListN.{drop, set}
 use lib.Seq.{getD-drop}
-use Rattle.checker.specs.Window.{conclusion, hasRelation, knownIn, outputConclusion, pinConclusion, pinFrame, presentBelow}
+use Rattle.checker.specs.Window.{conclusion, hasRelation, knownIn, lineFrame, lineNode, outputConclusion, pinConclusion, pinFrame, presentBelow}
 use Rattle.checker.specs.declared.step.Step.{Step}
 use Rattle.circuit.proofs.ValueLaws.{known-low, unknown-high}
 use Rattle.circuit.specs.Clock.{pinValues}
@@ -103,3 +103,22 @@ module _ (net : Net) (S : ℕ → StuckLines) (l : List ℕ) (n t p N : ℕ) (li
         via = n;
         during = t;
       }
+
+-- the lines of a relation
+pub line-pin : (net : Net) (n a : ℕ) → (a ≡ 0 → ⊥) → at (net .pins n) (a - 1) ≡ lineNode net n a
+line-pin net n zero h = absurd (h refl)
+line-pin net n (suc k) h = let q : suc k - 1 ≡ k = omega arith in ap (at (net .pins n)) q
+
+pub line-pin-frame : (net : Net) (n t a : ℕ) → (a ≡ 0 → ⊥) → pinFrame (net .kind n) t ≡ lineFrame net n t a
+line-pin-frame net n t zero h = absurd (h refl)
+line-pin-frame net n t (suc k) h = refl
+
+pub conclusion-node : (net : Net) (S : ℕ → StuckLines) (kn : ℕ → ℕ → ℕ) (n t a : ℕ) → conclusion net S kn n t a .node ≡ lineNode net n a
+unfolding conclusion
+conclusion-node net S kn n t zero = refl
+conclusion-node net S kn n t (suc k) = refl
+
+pub conclusion-frame : (net : Net) (S : ℕ → StuckLines) (kn : ℕ → ℕ → ℕ) (n t a : ℕ) → conclusion net S kn n t a .frame ≡ lineFrame net n t a
+unfolding conclusion
+conclusion-frame net S kn n t zero = refl
+conclusion-frame net S kn n t (suc k) = refl

@@ -26,13 +26,17 @@ module _ (net : Net) (S : ℕ → StuckLines) (W : ℕ) where
   unfoldable pub stepWithin : Step → Bool
   stepWithin s = ltb (s .node) (net .size) && (ltb (s .frame) W && (ltb (s .value) 2 && (ltb (s .via) (net .size) && ltb (s .during) W)))
 
+  -- line a of the step's relation gives the step
+  abbrev pub givesStep : (ℕ → ℕ → ℕ) → Step → ℕ → Bool
+  givesStep kn s a = sameStep (conclusion net S kn (s .via) (s .during) a) s
+
   -- A step must follow by its relation from what is known before it (kn, by node and frame) and be no value already known.
   unfoldable pub follows : (ℕ → ℕ → ℕ) → Step → Bool
   follows kn s =
       stepWithin s
       && (inForce net S (s .via) (s .during)
       && (not (eqb (kn (s .node) (s .frame)) (s .value))
-      && any (λ a. sameStep (conclusion net S kn (s .via) (s .during) a) s) (suc (length (net .pins (s .via))))))
+      && any (givesStep kn s) (suc (length (net .pins (s .via))))))
 
   -- the branch after its steps, read one after the other; none where one is not allowed: it does not follow, or comes after a contradiction
   unfoldable pub replay : List Step → Branch → Option Branch

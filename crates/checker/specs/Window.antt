@@ -27,6 +27,16 @@ hasRelation k (suc t) = not (isInput k)
 abbrev pub pinFrame : ℕ → ℕ → ℕ
 pinFrame k t = cond (isFlipFlop k) (pred t) t
 
+-- The lines of node n's relation at frame t: line 0 is its output, line k + 1 its pin k, which is known by its source.
+module _ (net : Net) where
+  abbrev pub lineNode : ℕ → ℕ → ℕ
+  lineNode n zero = n
+  lineNode n (suc k) = at (net .pins n) k
+
+  abbrev pub lineFrame : ℕ → ℕ → ℕ → ℕ
+  lineFrame n t zero = t
+  lineFrame n t (suc k) = pinFrame (net .kind n) t
+
 -- Conclusions of the relation of node n. s has the stuck lines in the frame of the pins, v what is known there (2 for unknown).
 module _ (net : Net) (s : StuckLines) (v : ℕ → ℕ) where
   -- the output's value: what the gate makes of the pins, where that is settled
@@ -72,14 +82,14 @@ module _ (net : Net) (S : ℕ → StuckLines) where
   unfoldable pub inForce : ℕ → ℕ → Bool
   inForce n t = isUnknown (held n t) && hasRelation (net .kind n) t
 
-  -- what the relation of n at t concludes of its line a, from what is known (kn): line 0 is the output, line k + 1 is pin k
+  -- what the relation of n at t concludes of its line a, from what is known (kn, by node and frame)
   unfoldable pub conclusion : (ℕ → ℕ → ℕ) → ℕ → ℕ → ℕ → Step
   conclusion kn n t zero =
       let p = pinFrame (net .kind n) t in
-      record { node = n; frame = t; value = outputConclusion net (S p) (λ m. kn m p) n; via = n; during = t }
+      record { node = lineNode net n zero; frame = lineFrame net n t zero; value = outputConclusion net (S p) (λ m. kn m p) n; via = n; during = t }
   conclusion kn n t (suc k) =
       let p = pinFrame (net .kind n) t in
-      record { node = getD (net .pins n) k 0; frame = p; value = pinConclusion net (S p) (λ m. kn m p) n (kn n t) k; via = n; during = t }
+      record { node = lineNode net n (suc k); frame = lineFrame net n t (suc k); value = pinConclusion net (S p) (λ m. kn m p) n (kn n t) k; via = n; during = t }
 
   -- Each new value is a step. A conclusion opposite to a known value is the last step and closes the branch.
   unfoldable pub enter : Branch → Step → Branch

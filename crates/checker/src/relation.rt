@@ -25,7 +25,7 @@ fn circuit_in(fault: Fault, c: u8, frame: u8) -> Circuit
 }
 
 // The frame of the pins in a relation: a flip-flop's stand one frame earlier.
-fn pin_frame(kind: u8, frame: u8) -> u8
+pub fn pin_frame(kind: u8, frame: u8) -> u8
     ensures { λ r. ⌜ r ≡ pinFrame kind frame ⌝ }
 {
     if kind == FLIP_FLOP && 0 < frame {
@@ -87,7 +87,7 @@ fn pin_conclusion(
 }
 
 // The source of a pin, 0 where the node has no such pin.
-fn pin_source(netlist: &[u8], node: u16, pin: u16) -> u16
+pub fn pin_source(netlist: &[u8], node: u16, pin: u16) -> u16
     ensures { λ r. ⌜ r ≡ at (netOf (now (netlist .entry)) .pins node) pin ⌝ }
 {
     if pin < circuit::length_of(netlist, node) {

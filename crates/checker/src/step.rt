@@ -10,3 +10,16 @@ pub struct Step {
     pub via: u16,
     pub during: u8,
 }
+
+// The step that stands at the start of these bytes.
+pub fn step_at(bytes: &[u8]) -> Step
+    ensures { λ r. ⌜ r ≡ stepOf (now (bytes .entry)) ⌝ }
+{
+    Step {
+        node: circuit::u16_at(bytes, 0),
+        frame: circuit::byte_at(bytes, 2),
+        value: circuit::byte_at(bytes, 3),
+        via: circuit::u16_at(bytes, 4),
+        during: circuit::byte_at(bytes, 6),
+    }
+}

@@ -21,3 +21,7 @@ or-right false b e h = e
 -- a disjunction with a false first part
 pub or-false : (a b : Bool) → a ≡ false → (a || b) ≡ b
 or-false a b e = rw e
+
+pub or-true : (a : Bool) → (a || true) ≡ true
+or-true true = refl
+or-true false = refl

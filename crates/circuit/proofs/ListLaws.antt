@@ -5,13 +5,13 @@ use mathlib.Core.Logic.{⊎-elim}
 use mathlib.Core.Path.{_∙_, _≡_, ap, refl, subst, sym}
 use Prim.Native.Nat.{_+_, _<_, _≤_, suc, zero, ℕ}
 use native.Mathlib.Decide.{decLt, le-ind}
-use native.Mathlib.Nat.{add-suc, add-zero, eq-or-lt-of-le, le-of-suc-le-suc, not-suc-le-zero, suc-add}
+use native.Mathlib.Nat.{add-suc, add-zero, eq-or-lt-of-le, le-of-suc-le-suc, min-le-left, not-suc-le-zero, suc-add}
 use native.Mathlib.Numerals.{add-one}
 use native.Mathlib.Omega.{arith}
-use lib.ListN.{List·getD-append, drop, drop-of-length-le, getD, length, length-append, set}
-use lib.Seq.{append-snoc, drop-cons, getD-at, set-at}
-use Rattle.circuit.proofs.BoolLaws.{and-left, and-right}
-use Rattle.circuit.specs.Lists.{at, build, every, indexed, table}
+use lib.ListN.{List·getD-append, List·getD-eq-default, drop, drop-of-length-le, getD, length, length-append, length-take, replicate, set, take}
+use lib.Seq.{append-snoc, drop-cons, getD-at, getD-take, set-at}
+use Rattle.circuit.proofs.BoolLaws.{and-left, and-right, or-true}
+use Rattle.circuit.specs.Lists.{any, at, build, every, indexed, table}
 
 -- one turn of a loop that tests by rising index
 pub every-more : (f : ℕ → Bool) (n : ℕ) → every f n ≡ true → f n ≡ true → every f (n + 1) ≡ true
@@ -43,6 +43,34 @@ every-fails f n i h e = go (every f n) refl
 -- the end of such a loop
 pub every-done : (f : ℕ → Bool) (i n : ℕ) → every f i ≡ true → i ≤ n → n ≤ i → true ≡ every f n
 every-done f i n e h g = let q : i ≡ n = omega arith in rw (← q) (sym e)
+
+-- one number that passes is enough
+pub any-at : (f : ℕ → Bool) (n i : ℕ) → i < n → f i ≡ true → any f n ≡ true
+unfolding any
+any-at f zero i h e = absurd (not-suc-le-zero h)
+any-at f (suc n) i h e =
+    ⊎-elim (λ q. rw (← q, e) (or-true (any f i))) (λ l. rw (any-at f n i l e)) (eq-or-lt-of-le (le-of-suc-le-suc h))
+
+-- one turn of a loop that looks for a number that passes
+pub any-more : (f : ℕ → Bool) (n : ℕ) → any f n ≡ false → f n ≡ false → any f (suc n) ≡ false
+unfolding any
+any-more f n e h = rw (e, h)
+
+pub any-none : (f : ℕ → Bool) → any f 0 ≡ false
+unfolding any
+any-none f = refl
+
+-- the start of a list holds the list's elements, and 0 past its end
+pub take-inside : (l : List ℕ) (i m : ℕ) → m < i → at l m ≡ at (take i l) m
+take-inside l i m h = sym (getD-take i l m 0 h)
+
+pub take-outside : (l : List ℕ) (i m : ℕ) → i ≤ m → 0 ≡ at (take i l) m
+take-outside l i m h = sym (List·getD-eq-default (take i l) 0 (simp length-take (omega (arith, min-le-left i (length l)))))
+
+pub zeros-at : (n m : ℕ) → at (replicate n 0) m ≡ 0
+zeros-at zero m = refl
+zeros-at (suc n) zero = refl
+zeros-at (suc n) (suc m) = zeros-at n m
 
 pub length-build : (f : List ℕ → ℕ → ℕ) (n : ℕ) → length (build f n) ≡ n
 unfolding build

@@ -1,0 +1,42 @@
+use borrow.Author.Needs.{needs}
+use Rattle.checker.proofs.step.step_at.Statement.{statement}
+use Rattle.checker.proofs.step.step_at.Tie as tie
+use Rattle.checker.proofs.step.step_at.Reads as reads
+use Rattle.checker.proofs.step.step_at.Lts as lts
+use Rattle.circuit.proofs.byte_at.Reads as byte-at-reads
+use Rattle.circuit.proofs.u16_at.Reads as u16-at-reads
+
+-- src/step.rt:19:15
+u16-at-requires : tie.Need-u16-at-requires
+u16-at-requires c κs = search needs
+
+-- src/step.rt:20:16
+byte-at-requires : tie.Need-byte-at-requires
+byte-at-requires c κs = search needs
+
+-- src/step.rt:21:16
+byte-at-requires-2 : tie.Need-byte-at-requires-2
+byte-at-requires-2 c κs = search needs
+
+-- src/step.rt:22:14
+u16-at-requires-2 : tie.Need-u16-at-requires-2
+u16-at-requires-2 c κs = search needs
+
+-- src/step.rt:23:17
+byte-at-requires-3 : tie.Need-byte-at-requires-3
+byte-at-requires-3 c κs = search needs
+
+-- src/step.rt:15:1
+returns : tie.Need-returns
+returns c = ?
+
+pub step-at-spec : {M : Type 1} → statement M
+step-at-spec =
+    tie.close
+    (tie.spec
+    u16-at-requires
+    byte-at-requires
+    byte-at-requires-2
+    u16-at-requires-2
+    byte-at-requires-3
+    returns)
