@@ -1,5 +1,5 @@
 -- What a conjunction or a disjunction says of its parts.
-use mathlib.Core.Bool.{Bool, _&&_, _||_, false, false≢true, true, true≢false}
+use mathlib.Core.Bool.{Bool, _&&_, _||_, false, false≢true, not, true, true≢false}
 use mathlib.Core.Path.{_≡_, refl}
 
 pub and-left : (a b : Bool) → (a && b) ≡ true → a ≡ true
@@ -21,3 +21,8 @@ or-right false b e h = e
 -- a disjunction with a false first part
 pub or-false : (a b : Bool) → a ≡ false → (a || b) ≡ b
 or-false a b e = rw e
+
+-- what is asked only where a holds
+pub implied : (a b : Bool) → (not a || b) ≡ true → a ≡ true → b ≡ true
+implied true b e q = e
+implied false b e q = absurd (false≢true q)

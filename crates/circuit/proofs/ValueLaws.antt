@@ -1,8 +1,34 @@
 -- Laws of the values of a line.
-use mathlib.Core.Path.{_≡_, refl}
+use mathlib.Core.Bool.{false, false≢true, true}
+use mathlib.Core.Path.{_≡_, refl, sym}
 use Prim.Native.Nat.{_<_, _≤_, suc, zero, ℕ}
 use native.Mathlib.Omega.{arith}
-use Rattle.circuit.specs.Value.{and₂, neg, or₂, stuckOr, xor₂}
+use Rattle.circuit.specs.Value.{and₂, differ, isUnknown, neg, or₂, stuckOr, xor₂}
+
+-- a value is known where it is 0 or 1, unknown from 2 on
+pub known-value : (v : ℕ) → isUnknown v ≡ false → v < 2
+known-value zero e = omega arith
+known-value (suc zero) e = omega arith
+known-value (suc (suc v)) e = absurd (false≢true (sym e))
+
+pub unknown-value : (v : ℕ) → isUnknown v ≡ true → 2 ≤ v
+unknown-value zero e = absurd (false≢true e)
+unknown-value (suc zero) e = absurd (false≢true e)
+unknown-value (suc (suc v)) e = omega arith
+
+-- two values differ where both are known and they are not the same
+pub record Differing (v w : ℕ) : Type 0 where
+  pub left-known : v < 2
+  pub right-known : w < 2
+  pub apart : v ≡ w → ⊥
+
+pub differing : (v w : ℕ) → differ v w ≡ true → Differing v w
+differing zero zero e = absurd (false≢true e)
+differing zero (suc zero) e = record { left-known = omega arith; right-known = omega arith; apart = λ q. omega arith }
+differing zero (suc (suc w)) e = absurd (false≢true e)
+differing (suc zero) zero e = record { left-known = omega arith; right-known = omega arith; apart = λ q. omega arith }
+differing (suc zero) (suc w) e = absurd (false≢true e)
+differing (suc (suc v)) w e = absurd (false≢true e)
 
 pub stuck-known : (s v : ℕ) → s < 2 → stuckOr s v ≡ s
 stuck-known zero v h = refl

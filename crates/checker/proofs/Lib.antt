@@ -1,0 +1,5 @@
+-- Laws of the definitions, and THE THEOREM; each file uses only those above it.
+pub mod VerdictLaws
+pub mod HybridRuns
+pub mod Model
+pub mod Conclusions
