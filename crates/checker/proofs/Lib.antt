@@ -3,3 +3,4 @@ pub mod VerdictLaws
 pub mod HybridRuns
 pub mod Model
 pub mod Conclusions
+pub mod TraceSoundness
