@@ -4,3 +4,4 @@ pub mod HybridRuns
 pub mod Model
 pub mod Conclusions
 pub mod TraceSoundness
+pub mod Theorem

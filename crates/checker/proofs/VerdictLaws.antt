@@ -188,3 +188,210 @@ module _ (net : Net) (S : ℕ → StuckLines) (W : ℕ) where
       go true p y h q r = after-contradiction p
       go false p true h q r = later-step (r q)
       go false p false h q r = not-following (λ f. false≢true (sym h ∙ says-follows net S W (b .values) s f))
+
+  pub refused-replay : {ss : List Step} {b : Branch} → NotAllowed ss b → replay net S W ss b ≡ none
+  unfolding replay
+  refused-replay (after-contradiction {s} {ss} {b} p) =
+      let q : (not (b .closed) && follows net S W (b .values) s) ≡ false = rw p in
+      ap (read-on ss b s) q
+  refused-replay (not-following {s} {ss} {b} n) = go (not (b .closed)) (follows net S W (b .values) s) refl
+    where
+      go : (x y : Bool) → follows net S W (b .values) s ≡ y → read-on ss b s (x && y) ≡ none
+      go x true q = absurd (n (follows-says net S W (b .values) s q))
+      go true false q = refl
+      go false false q = refl
+  refused-replay (later-step {s} {ss} {b} r) = go (not (b .closed) && follows net S W (b .values) s) (refused-replay r)
+    where
+      go : (x : Bool) → replay net S W ss (enter net S b s) ≡ none → read-on ss b s x ≡ none
+      go true q = q
+      go false q = refl
+
+-- The laws of case analysis: an unsound netlist is turned back with the reader's number, a sound one with the number of the first head test
+-- that fails, and where all pass the certificate is judged.
+module _ (a : CheckerCall) where
+  abbrev tested : Option ℕ → Outcome
+  tested r = elim r [ some k ↦ turnedBack k a | none ↦ judged a ]
+
+  abbrev read-then : Answer → Outcome
+  read-then r = elim r [ refused k ↦ turnedBack k a | answered _ ↦ tested (refusal checkerTests a) ]
+
+  pub checking-unsound : (k : ℕ) → reading (a .netlist) ≡ refused k → checking a ≡ turnedBack k a
+  unfolding checking
+  checking-unsound k e = ap read-then e
+
+  pub checking-refused : {vs : List ℕ} (k : ℕ) → reading (a .netlist) ≡ answered vs → FirstFails a k checkerTests → checking a ≡ turnedBack k a
+  unfolding checking
+  checking-refused k e f = ap read-then e ∙ ap tested (refusal-at checkerTests a k f)
+
+  pub checking-judged : {vs : List ℕ} → reading (a .netlist) ≡ answered vs → Passed checkerTests a → checking a ≡ judged a
+  unfolding checking
+  checking-judged e t = ap read-then e ∙ ap tested (refusal-by checkerTests a t)
+
+-- the head tests stand in the order of their numbers, so the smallest number that applies is given
+pub checking-smallest : (a : CheckerCall) (k : ℕ) → FirstFails a k checkerTests → NoneSmaller k checkerTests a
+checking-smallest a k f = refusal-smallest 0 checkerTests a k (omega arith, (omega arith, (omega arith, (omega arith, (omega arith, tt))))) f
+
+-- the stuck lines of each frame of the certificate's window
+abbrev pub windowLines : List ℕ → ℕ → StuckLines
+windowLines bs = presentBelow (cOf bs) (linesOf (faultOf bs))
+
+module _ (net : Net) (bs : List ℕ) where
+  -- the branch that value v of the certificate's split begins
+  abbrev pub splitBranch : ℕ → Branch
+  splitBranch v = begin net (windowLines bs) (framesOf bs) (splitNode bs) (splitFrame bs) v
+
+  -- all steps of branch v are allowed and leave it as e; one of them is not allowed
+  abbrev pub RunAllowed : ℕ → Branch → Type 0
+  RunAllowed v e = Allowed net (windowLines bs) (framesOf bs) (stepsOf bs v) (splitBranch v) e
+
+  abbrev pub RunNotAllowed : ℕ → Type 0
+  RunNotAllowed v = NotAllowed net (windowLines bs) (framesOf bs) (stepsOf bs v) (splitBranch v)
+
+  pub replayed-allowed : (v : ℕ) (e : Branch) → replayed net bs v ≡ some e → RunAllowed v e
+  unfolding replayed
+  replayed-allowed v e p = replay-allowed net (windowLines bs) (framesOf bs) (stepsOf bs v) (splitBranch v) e p
+
+  pub allowed-replayed : (v : ℕ) (e : Branch) → RunAllowed v e → replayed net bs v ≡ some e
+  unfolding replayed
+  allowed-replayed v e p = allowed-replay net (windowLines bs) (framesOf bs) p
+
+  pub replayed-refused : (v : ℕ) → replayed net bs v ≡ none → RunNotAllowed v
+  unfolding replayed
+  replayed-refused v p = replay-refused net (windowLines bs) (framesOf bs) (stepsOf bs v) (splitBranch v) p
+
+  pub refused-replayed : (v : ℕ) → RunNotAllowed v → replayed net bs v ≡ none
+  unfolding replayed
+  refused-replayed v p = refused-replay net (windowLines bs) (framesOf bs) p
+
+  -- branch v closes: all its steps are allowed, and what they leave is closed by contradiction or by its effect trace
+  pub record Closes (v : ℕ) : Type 0 where
+    pub end : Branch
+    pub allowed : RunAllowed v end
+    pub closing : branchCloses net bs end ≡ true
+
+  -- the laws of the verdict: a step that is not allowed in either branch is refused before a branch that does not close
+  pub verdict-zero-refused : (y : Option Branch) → verdict net bs none y ≡ refused 14
+  unfolding verdict
+  verdict-zero-refused y = refl
+
+  pub verdict-one-refused : (x : Option Branch) → verdict net bs x none ≡ refused 14
+  unfolding verdict
+  verdict-one-refused none = refl
+  verdict-one-refused (some x) = refl
+
+  pub verdict-open : (x y : Branch) → (branchCloses net bs x && branchCloses net bs y) ≡ false → verdict net bs (some x) (some y) ≡ refused 15
+  unfolding verdict
+  verdict-open x y e = rw e
+
+  pub verdict-closed : (x y : Branch) → branchCloses net bs x ≡ true → branchCloses net bs y ≡ true → verdict net bs (some x) (some y) ≡ accepted (cOf bs)
+  unfolding verdict
+  verdict-closed x y p q = rw (p, q)
+
+-- the netlist is sound and all head tests pass
+pub record Ready (a : CheckerCall) : Type 0 where
+  pub sound-netlist : reading (a .netlist) ≡ sound (nodeCount (a .netlist)) (pinCount (a .netlist))
+  pub passed : Passed checkerTests a
+
+-- Why a certificate is accepted with c: netlist and head are right, both branches close, and c is the certificate's.
+pub record Accepted (a : CheckerCall) (c : ℕ) : Type 0 where
+  pub ready : Ready a
+  pub zero-closes : Closes (netOf (a .netlist)) (a .certificate) 0
+  pub one-closes : Closes (netOf (a .netlist)) (a .certificate) 1
+  pub same-c : cOf (a .certificate) ≡ c
+
+-- Why one is refused with k: for the netlist (1 to 7), for the head (8 to 13), for a step of either branch that is not allowed (14), and
+-- only where all are allowed for a branch that does not close (15).
+pub data Refused (a : CheckerCall) : ℕ → Type 0 where
+  unsound : {k : ℕ} → reading (a .netlist) ≡ refused k → Refused a k
+  wrong-head : {k : ℕ} → reading (a .netlist) ≡ sound (nodeCount (a .netlist)) (pinCount (a .netlist)) → FirstFails a k checkerTests → Refused a k
+  wrong-step : Ready a → (v : ℕ) → v < 2 → RunNotAllowed (netOf (a .netlist)) (a .certificate) v → Refused a 14
+  open-branch : Ready a → {x y : Branch} → RunAllowed (netOf (a .netlist)) (a .certificate) 0 x → RunAllowed (netOf (a .netlist)) (a .certificate) 1 y
+      → (branchCloses (netOf (a .netlist)) (a .certificate) x && branchCloses (netOf (a .netlist)) (a .certificate) y) ≡ false
+      → Refused a 15
+
+module _ (a : CheckerCall) where
+  abbrev net : Net
+  net = netOf (a .netlist)
+
+  abbrev bs : List ℕ
+  bs = a .certificate
+
+  abbrev closed-then : Bool → Answer
+  closed-then r = cond r (accepted (cOf bs)) (refused 15)
+
+  accepted-verdict : (c : ℕ) → Ready a → (x y : Option Branch) → replayed net bs 0 ≡ x → replayed net bs 1 ≡ y → verdict net bs x y ≡ accepted c → Accepted a c
+  unfolding verdict
+  accepted-verdict c t none y p q e = absurd (let z : _≡_ {A = ℕ} 0 1 = cc in omega arith)
+  accepted-verdict c t (some x) none p q e = absurd (let z : _≡_ {A = ℕ} 0 1 = cc in omega arith)
+  accepted-verdict c t (some x) (some y) p q e = go (branchCloses net bs x && branchCloses net bs y) refl e
+    where
+      go : (r : Bool) → (branchCloses net bs x && branchCloses net bs y) ≡ r → closed-then r ≡ accepted c → Accepted a c
+      go true z e =
+          record {
+            ready = t;
+            zero-closes = record { end = x; allowed = replayed-allowed net bs 0 x p; closing = and-left (branchCloses net bs x) (branchCloses net bs y) z };
+            one-closes = record { end = y; allowed = replayed-allowed net bs 1 y q; closing = and-right (branchCloses net bs x) (branchCloses net bs y) z };
+            same-c = (cc);
+          }
+      go false z e = absurd (let z : _≡_ {A = ℕ} 0 1 = cc in omega arith)
+
+  refused-verdict : (k : ℕ) → Ready a → (x y : Option Branch) → replayed net bs 0 ≡ x → replayed net bs 1 ≡ y → verdict net bs x y ≡ refused k → Refused a k
+  unfolding verdict
+  refused-verdict k t none y p q e = let z : 14 ≡ k = cc in subst (Refused a) z (wrong-step t 0 (omega arith) (replayed-refused net bs 0 p))
+  refused-verdict k t (some x) none p q e = let z : 14 ≡ k = cc in subst (Refused a) z (wrong-step t 1 (omega arith) (replayed-refused net bs 1 q))
+  refused-verdict k t (some x) (some y) p q e = go (branchCloses net bs x && branchCloses net bs y) refl e
+    where
+      go : (r : Bool) → (branchCloses net bs x && branchCloses net bs y) ≡ r → closed-then r ≡ refused k → Refused a k
+      go true z e = absurd (let z : _≡_ {A = ℕ} 0 1 = cc in omega arith)
+      go false z e = let w : 15 ≡ k = cc in subst (Refused a) w (open-branch t (replayed-allowed net bs 0 x p) (replayed-allowed net bs 1 y q) z)
+
+  -- what the answer says
+  pub accepted-says : (c : ℕ) → checking a .answer ≡ accepted c → Accepted a c
+  unfolding checking judged
+  accepted-says c e = go (reading (a .netlist)) refl e
+    where
+      tests : reading (a .netlist) ≡ sound (nodeCount (a .netlist)) (pinCount (a .netlist)) → (r : Option ℕ) → refusal checkerTests a ≡ r → tested a r .answer ≡ accepted c → Accepted a c
+      tests s none q e = accepted-verdict c (record { sound-netlist = s; passed = refusal-none checkerTests a q }) (replayed net bs 0) (replayed net bs 1) refl refl e
+      tests s (some k) q e = absurd (let z : _≡_ {A = ℕ} 0 1 = cc in omega arith)
+
+      go : (r : Answer) → reading (a .netlist) ≡ r → read-then a r .answer ≡ accepted c → Accepted a c
+      go (refused k) q e = absurd (let z : _≡_ {A = ℕ} 0 1 = cc in omega arith)
+      go (answered vs) q e = tests (answered-sound (a .netlist) vs q) (refusal checkerTests a) refl e
+
+  pub refused-says : (k : ℕ) → checking a .answer ≡ refused k → Refused a k
+  unfolding checking judged
+  refused-says k e = go (reading (a .netlist)) refl e
+    where
+      tests : reading (a .netlist) ≡ sound (nodeCount (a .netlist)) (pinCount (a .netlist)) → (r : Option ℕ) → refusal checkerTests a ≡ r → tested a r .answer ≡ refused k → Refused a k
+      tests s none q e = refused-verdict k (record { sound-netlist = s; passed = refusal-none checkerTests a q }) (replayed net bs 0) (replayed net bs 1) refl refl e
+      tests s (some j) q e = wrong-head s (refusal-some checkerTests a k (let z : j ≡ k = cc in q ∙ ap some z))
+
+      go : (r : Answer) → reading (a .netlist) ≡ r → read-then a r .answer ≡ refused k → Refused a k
+      go (refused j) q e = unsound (let z : j ≡ k = cc in q ∙ ap refused z)
+      go (answered vs) q e = tests (answered-sound (a .netlist) vs q) (refusal checkerTests a) refl e
+
+  judged-answer : Ready a → checking a .answer ≡ verdict net bs (replayed net bs 0) (replayed net bs 1)
+  unfolding judged
+  judged-answer t = ap (λ (o : Outcome). o .answer) (checking-judged a (t .sound-netlist) (t .passed))
+
+  -- and nothing else is asked
+  pub says-accepted : (c : ℕ) → Accepted a c → checking a .answer ≡ accepted c
+  says-accepted c h =
+      let x = h .zero-closes in
+      let y = h .one-closes in
+      judged-answer (h .ready)
+      ∙ (λ i. verdict net bs (allowed-replayed net bs 0 (x .end) (x .allowed) i) (allowed-replayed net bs 1 (y .end) (y .allowed) i))
+      ∙ verdict-closed net bs (x .end) (y .end) (x .closing) (y .closing)
+      ∙ ap accepted (h .same-c)
+
+  pub says-refused : {k : ℕ} → Refused a k → checking a .answer ≡ refused k
+  says-refused (unsound {k} e) = ap (λ (o : Outcome). o .answer) (checking-unsound a k e)
+  says-refused (wrong-head {k} s f) = ap (λ (o : Outcome). o .answer) (checking-refused a k s f)
+  says-refused (wrong-step t v l r) = judged-answer t ∙ go v l (refused-replayed net bs v r)
+    where
+      go : (v : ℕ) → v < 2 → replayed net bs v ≡ none → verdict net bs (replayed net bs 0) (replayed net bs 1) ≡ refused 14
+      go zero l q = ap (λ (x : Option Branch). verdict net bs x (replayed net bs 1)) q ∙ verdict-zero-refused net bs (replayed net bs 1)
+      go (suc zero) l q = ap (verdict net bs (replayed net bs 0)) q ∙ verdict-one-refused net bs (replayed net bs 0)
+      go (suc (suc v)) l q = absurd (omega arith)
+  says-refused (open-branch t {x} {y} p q e) =
+      judged-answer t ∙ (λ i. verdict net bs (allowed-replayed net bs 0 x p i) (allowed-replayed net bs 1 y q i)) ∙ verdict-open net bs x y e
