@@ -15,7 +15,7 @@ use Rattle.checker.specs.declared.step.Step.{Step}
 use Rattle.circuit.proofs.ClockLaws.{Ordered}
 use Rattle.circuit.proofs.GateLaws.{Refines, RefinesAll, gate-mono, indexed-refines, set-refines, stuck-mono, stuckOr-refines}
 use Rattle.circuit.proofs.ListLaws.{indexed-at, set-either}
-use Rattle.circuit.proofs.ValueLaws.{Differing, differing, known-value, stuck-free, unknown-value}
+use Rattle.circuit.proofs.ValueLaws.{differing, known-value, stuck-free, unknown-value}
 use Rattle.circuit.specs.Clock.{pinValues}
 use Rattle.circuit.specs.Fault.{StuckLines}
 use Rattle.circuit.specs.Kind.{controlling, gate, ruleOf}

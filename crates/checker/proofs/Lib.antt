@@ -1,5 +1,6 @@
 -- Laws of the definitions, and THE THEOREM; each file uses only those above it.
 pub mod VerdictLaws
+pub mod Agreement
 pub mod HybridRuns
 pub mod Model
 pub mod Conclusions

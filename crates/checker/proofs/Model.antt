@@ -1,7 +1,6 @@
 -- Models of a window: values by node and frame that keep to its relations. The seen values of a hybrid run are one.
-use mathlib.Core.Bool.{Bool, _&&_, cond, false, false≢true, true}
+use mathlib.Core.Bool.{Bool, false, false≢true, true}
 use mathlib.Core.List.{List}
-use mathlib.Core.Logic.{⊎-elim}
 use mathlib.Core.Path.{_∙_, _≡_, ap, refl, subst, sym}
 use Prim.Native.Nat.{_<_, _≤_, suc, zero, ℕ}
 use borrow.Author.Tests.{eqb-true, not-true}

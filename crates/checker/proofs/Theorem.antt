@@ -6,13 +6,13 @@ use Prim.Native.Nat.{_+_, _<_, suc, zero, ℕ}
 use native.Mathlib.Nat.{add-suc, add-zero}
 use native.Mathlib.Omega.{arith}
 use lib.Dec.{ltb}
-use lib.ListN.{drop, getD, length, length-drop}
+use lib.ListN.{drop, length-drop}
 use borrow.Author.Tests.{ltb-true}
 use Rattle.checker.proofs.Conclusions.{Sound, True, allowed-sound, begin-sound, known-true}
 use Rattle.checker.proofs.HybridRuns.{clock, clock-inputs, faulty-once, good-from, later, later-clock, latched-clock, latchedIn, run-clock, seen-through, seenIn}
 use Rattle.checker.proofs.Model.{Model, run-model}
 use Rattle.checker.proofs.TraceSoundness.{dies-same}
-use Rattle.checker.proofs.VerdictLaws.{Accepted, Closes, accepted-says, splitBranch, windowLines}
+use Rattle.checker.proofs.VerdictLaws.{Accepted, Closes, accepted-says}
 use Rattle.checker.specs.Certificate.{cOf, fOf, faultOf, framesOf, splitFrame, splitNode}
 use Rattle.checker.specs.Checker.{accepted, checkerCall, checking, closes}
 use Rattle.checker.specs.Statement.{EqualOutputs, Redundant}
@@ -22,7 +22,7 @@ use Rattle.circuit.proofs.BoolLaws.{and-left}
 use Rattle.circuit.proofs.ClockLaws.{Ordered, sound-ordered}
 use Rattle.circuit.proofs.GateLaws.{Refines}
 use Rattle.circuit.proofs.RunLaws.{latchedAfter-binary}
-use Rattle.circuit.specs.ClockLists.{InputBits, LatchedBits, latchedAfter, latchedBefore, seenAt}
+use Rattle.circuit.specs.ClockLists.{InputBits, LatchedBits, latchedAfter, latchedBefore}
 use Rattle.circuit.specs.Fault.{StuckLines, linesOf, noneStuck}
 use Rattle.circuit.specs.Lists.{at}
 use Rattle.circuit.specs.Netlist.{Net, netOf, nodeCount, pinCount}

@@ -1,6 +1,6 @@
 -- The effect trace is sound: a line that is not touched has the same value with and without the fault. So where the effect dies, outputs
 -- are the same for ever.
-use mathlib.Core.Bool.{Bool, _&&_, _||_, cond, false, false≢true, not, true}
+use mathlib.Core.Bool.{Bool, cond, false, false≢true, not, true}
 use mathlib.Core.List.{List, _∷_}
 use mathlib.Core.Path.{_∙_, _≡_, ap, fun-ext, refl, sym}
 use Prim.Native.Nat.{_+_, _<_, _≤_, suc, zero, ℕ}
@@ -8,13 +8,14 @@ use native.Mathlib.Nat.{add-suc, add-zero, suc-add}
 use native.Mathlib.Omega.{arith}
 use lib.Dec.{eqb}
 use borrow.Author.Tests.{eq-eqb, eqb-true}
+use Rattle.checker.proofs.Agreement.{nodeMark-agree}
 use Rattle.checker.proofs.HybridRuns.{seenIn, seenIn-agree}
 use Rattle.checker.specs.Trace.{effectDies, gateMark, latchedMark, latchedMarks, latchedUntouched, mark, marksList, nodeMark, outputUntouched, pinMark, siteMark, someMark, untouchedValue}
 use Rattle.checker.specs.Window.{presentBelow}
 use Rattle.circuit.proofs.BoolLaws.{and-left, and-right, implied}
 use Rattle.circuit.proofs.ClockLaws.{Ordered, latched-at, seen-law}
 use Rattle.circuit.proofs.GateLaws.{Refines, RefinesAll, gate-mono, indexed-refines}
-use Rattle.circuit.proofs.ListLaws.{Below, bcons, bnil, build-agree, every-at, getD-build, indexed-agree}
+use Rattle.circuit.proofs.ListLaws.{Below, bcons, bnil, build-agree, every-at, getD-build}
 use Rattle.circuit.proofs.ValueLaws.{known-value}
 use Rattle.circuit.specs.Clock.{latchedBy, pinValues, seenBy}
 use Rattle.circuit.specs.ClockLists.{clockStart, latchedAfter, seenAfter}
@@ -54,31 +55,6 @@ untouched-refines zero v x h = h refl
 untouched-refines (suc m) v x h = λ k. absurd (omega arith)
 
 module _ (net : Net) (D : StuckLines) (kn : ℕ → ℕ) where
-  -- the mark of a node depends on the marks below it alone
-  gateMark-agree : (x y : ℕ → ℕ) (n : ℕ) → Below n (net .pins n) → ((m : ℕ) → m < n → x m ≡ y m) → gateMark net D kn x n ≡ gateMark net D kn y n
-  unfolding gateMark pinMark
-  gateMark-agree x y n p h = λ i. elim (someMark (r i)) [ true ↦ mark (isUnknown (gate (net .kind n) (q i))) | false ↦ 0 ]
-    where
-      pm : (k m : ℕ) → m < n → pinMark net D kn x n k m ≡ pinMark net D kn y n k m
-      pm k m z = ap (siteMark (D .pin n k) (kn m)) (h m z)
-
-      r : indexed (pinMark net D kn x n) 0 (net .pins n) ≡ indexed (pinMark net D kn y n) 0 (net .pins n)
-      r = indexed-agree p (pinMark net D kn x n) (pinMark net D kn y n) 0 pm
-
-      q : indexed (λ k m. untouchedValue (pinMark net D kn x n k m) (kn m)) 0 (net .pins n) ≡ indexed (λ k m. untouchedValue (pinMark net D kn y n k m) (kn m)) 0 (net .pins n)
-      q =
-          indexed-agree p (λ k m. untouchedValue (pinMark net D kn x n k m) (kn m)) (λ k m. untouchedValue (pinMark net D kn y n k m) (kn m)) 0
-          (λ k m z. ap (λ (w : ℕ). untouchedValue w (kn m)) (pm k m z))
-
-  pub nodeMark-agree : (latched x y : ℕ → ℕ) (n : ℕ) → Ordered net → n < net .size → ((m : ℕ) → m < n → x m ≡ y m) → nodeMark net D kn latched x n ≡ nodeMark net D kn latched y n
-  unfolding nodeMark
-  nodeMark-agree latched x y n o h e = ap (siteMark (D .node n) (kn n)) (go (isGiven (net .kind n)) refl)
-    where
-      go : (b : Bool) → isGiven (net .kind n) ≡ b
-          → cond b (cond (isFlipFlop (net .kind n)) (latched n) 0) (gateMark net D kn x n) ≡ cond b (cond (isFlipFlop (net .kind n)) (latched n) 0) (gateMark net D kn y n)
-      go true q = refl
-      go false q = gateMark-agree x y n (o .earlier n h q) e
-
   -- the mark of node n, where l has those of the nodes before it: marksList makes its list by this
   abbrev pub markNext : (ℕ → ℕ) → List ℕ → ℕ → ℕ
   markNext latched l n = nodeMark net D kn latched (at l) n
@@ -88,7 +64,8 @@ module _ (net : Net) (D : StuckLines) (kn : ℕ → ℕ) where
   unfolding marksList
   marks-law latched n o h =
       getD-build (markNext latched) 0 (net .size) h
-      ∙ nodeMark-agree latched (at (build (markNext latched) n)) (at (build (markNext latched) (net .size))) n o h (λ m p. build-agree (markNext latched) 0 p (omega arith))
+      ∙ nodeMark-agree net D kn kn o (λ m p. refl) latched latched (at (build (markNext latched) n)) (at (build (markNext latched) (net .size))) n h refl
+      (λ m p. build-agree (markNext latched) 0 p (omega arith))
 
 -- One frame: a has the values without the lines of D, b those with them; ga and gb what the two are given. What is known is true of a.
 module _ (net : Net) (o : Ordered net) (D : StuckLines) (kn ga gb latched a b : ℕ → ℕ)

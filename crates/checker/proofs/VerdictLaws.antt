@@ -3,20 +3,20 @@ use mathlib.Core.Bool.{Bool, _&&_, cond, false, false≢true, not, true}
 use mathlib.Core.List.{List, [], _∷_}
 use mathlib.Core.Option.{Option, none, some}
 use mathlib.Core.Path.{_∙_, _≡_, ap, refl, subst, sym}
-use Prim.Native.Nat.{_+_, _<_, suc, zero, ℕ}
+use Prim.Native.Nat.{_<_, suc, zero, ℕ}
 use native.Mathlib.Omega.{arith}
 use lib.Dec.{eqb, ltb}
 use lib.ListN.{length}
 use borrow.Author.Tests.{eq-eqb, eqb-false, eqb-true, lt-ltb, ltb-true, ne-eqb, not-true}
-use Rattle.checker.specs.Certificate.{cOf, fOf, faultOf, framesOf, splitFrame, splitNode, stepsOf}
-use Rattle.checker.specs.Checker.{CheckerCall, accepted, branchCloses, checkerTests, checking, cleared, closes, follows, judged, replay, replayed, sameStep, stepWithin, turnedBack, verdict, windowSize}
+use Rattle.checker.specs.Certificate.{cOf, faultOf, framesOf, splitFrame, splitNode, stepsOf}
+use Rattle.checker.specs.Checker.{CheckerCall, accepted, branchCloses, checkerTests, checking, follows, judged, replay, replayed, sameStep, stepWithin, turnedBack, verdict}
 use Rattle.checker.specs.Window.{Branch, begin, conclusion, enter, inForce, known, presentBelow}
 use Rattle.checker.specs.declared.step.Step.{Step}
 use Rattle.circuit.proofs.BoolLaws.{and-left, and-right}
 use Rattle.circuit.proofs.ListLaws.{any-by, any-found}
 use Rattle.circuit.proofs.RefusalLaws.{FirstFails, NoneSmaller, Passed, refusal-at, refusal-by, refusal-none, refusal-smallest, refusal-some}
 use Rattle.circuit.proofs.SoundLaws.{answered-sound}
-use Rattle.circuit.specs.Answer.{Answer, Outcome, answered, outcome, refusal, refused}
+use Rattle.circuit.specs.Answer.{Answer, Outcome, answered, refusal, refused}
 use Rattle.circuit.specs.Fault.{StuckLines, linesOf}
 use Rattle.circuit.specs.Lists.{any}
 use Rattle.circuit.specs.Netlist.{Net, netOf, nodeCount, pinCount, reading, sound}

@@ -65,6 +65,12 @@ any-by f (suc n) i h e =
     or-true true b q = refl
     or-true false b q = q
 
+-- tests that agree below n
+pub any-same : (f g : ℕ → Bool) (n : ℕ) → ((i : ℕ) → i < n → f i ≡ g i) → any f n ≡ any g n
+unfolding any
+any-same f g zero h = refl
+any-same f g (suc n) h = let r = any-same f g n (λ i l. h i (omega arith)) in let q = h n (omega arith) in λ i. r i || q i
+
 pub length-build : (f : List ℕ → ℕ → ℕ) (n : ℕ) → length (build f n) ≡ n
 unfolding build
 length-build f zero = refl
