@@ -1,26 +1,25 @@
 -- Conclusions and the effect trace depend on what is known within the window alone: nodes below N and frames below W.
 use mathlib.Core.Bool.{Bool, _&&_, cond, false, not, true}
 use mathlib.Core.List.{List}
-use mathlib.Core.Path.{_≡_, ap, refl}
-use Prim.Native.Nat.{_*_, _+_, _<_, _≤_, pred, suc, zero, ℕ}
+use mathlib.Core.Path.{_∙_, _≡_, ap, refl}
+use Prim.Native.Nat.{_+_, _<_, _≤_, pred, suc, zero, ℕ}
 use native.Mathlib.Omega.{arith}
-use lib.Arith.{digits-lt}
 use lib.Dec.{eqb, ltb}
-use lib.ListN.{getD, length, set}
+use lib.ListN.{length, set}
 use borrow.Author.Tests.{ltb-true}
 use Rattle.checker.specs.Checker.{follows, sameStep, stepWithin}
 use Rattle.checker.specs.Trace.{effectDies, gateMark, latchedMark, latchedMarks, latchedUntouched, mark, marksList, nodeMark, outputUntouched, pinMark, siteMark, someMark, untouchedValue}
-use Rattle.checker.specs.Window.{conclusion, held, inForce, known, outputConclusion, pinConclusion, pinFrame}
+use Rattle.checker.specs.Window.{conclusion, inForce, outputConclusion, pinConclusion, pinFrame}
 use Rattle.checker.specs.declared.step.Step.{Step}
 use Rattle.circuit.proofs.BoolLaws.{and-left, and-right}
 use Rattle.circuit.proofs.ClockLaws.{Ordered, pinValues-agree}
-use Rattle.circuit.proofs.ListLaws.{Below, any-same, build-same, indexed-agree}
+use Rattle.circuit.proofs.ListLaws.{Below, any-same, build-agree, build-same, getD-build, indexed-agree}
 use Rattle.circuit.specs.Clock.{pinValues}
 use Rattle.circuit.specs.Fault.{StuckLines, noneStuck}
 use Rattle.circuit.specs.Kind.{controlling, gate, isFlipFlop, isGiven, ruleOf}
-use Rattle.circuit.specs.Lists.{any, at, every, indexed}
+use Rattle.circuit.specs.Lists.{any, at, build, every, indexed}
 use Rattle.circuit.specs.Netlist.{Net}
-use Rattle.circuit.specs.Value.{differ, isUnknown, neg, stuckOr}
+use Rattle.circuit.specs.Value.{differ, isUnknown, neg}
 
 -- two functions agree at every node
 abbrev pub SameNodes : Net → (ℕ → ℕ) → (ℕ → ℕ) → Type 0
@@ -69,29 +68,18 @@ conclusion-agree net o S W kn kn′ e n t (suc k) h l =
     let r = pin-agree net o (S p) (λ m. kn m p) (λ m. kn′ m p) (λ m q. e m p q (omega arith)) n (kn n t) (kn′ n t) k h (e n t h l) in
     λ i. record { node = at (net .pins n) k; frame = p; value = r i; via = n; during = t }
 
--- A knowledge list is read within the window alone: at places below N × W.
-abbrev pub SamePlaces : Net → ℕ → List ℕ → List ℕ → Type 0
-SamePlaces net W l m = (i : ℕ) → i < W * net .size → getD l i 2 ≡ getD m i 2
-
-pub known-agree : (net : Net) (S : ℕ → StuckLines) (W : ℕ) (l m : List ℕ) → SamePlaces net W l m → SameWindow net W (known net S l) (known net S m)
-unfolding known
-known-agree net S W l m e n t h q = ap (stuckOr (held net S n t)) (e (t * net .size + n) (digits-lt q h))
-
--- so a step follows from one list where it follows from the other
-pub follows-agree : (net : Net) → Ordered net → (S : ℕ → StuckLines) (W : ℕ) (l m : List ℕ) → SamePlaces net W l m → (s : Step) → follows net S W l s ≡ follows net S W m s
+-- so a step follows from the one where it follows from the other
+pub follows-agree : (net : Net) → Ordered net → (S : ℕ → StuckLines) (W : ℕ) (kn kn′ : ℕ → ℕ → ℕ) → SameWindow net W kn kn′ → (s : Step) → follows net S W kn s ≡ follows net S W kn′ s
 unfolding follows stepWithin
-follows-agree net o S W l m e s = go (stepWithin net S W s) refl
+follows-agree net o S W kn kn′ e s = go (stepWithin net S W s) refl
   where
-    kn : SameWindow net W (known net S l) (known net S m)
-    kn = known-agree net S W l m e
-
-    rest : List ℕ → Bool
-    rest l =
+    rest : (ℕ → ℕ → ℕ) → Bool
+    rest kn =
         inForce net S (s .via) (s .during)
-        && (not (eqb (known net S l (s .node) (s .frame)) (s .value))
-        && any (λ a. sameStep (conclusion net S (known net S l) (s .via) (s .during) a) s) (suc (length (net .pins (s .via)))))
+        && (not (eqb (kn (s .node) (s .frame)) (s .value))
+        && any (λ a. sameStep (conclusion net S kn (s .via) (s .during) a) s) (suc (length (net .pins (s .via)))))
 
-    within : stepWithin net S W s ≡ true → rest l ≡ rest m
+    within : stepWithin net S W s ≡ true → rest kn ≡ rest kn′
     within q =
         let b₁ : Bool = ltb (s .node) (net .size) in
         let b₂ : Bool = ltb (s .frame) W in
@@ -100,15 +88,15 @@ follows-agree net o S W l m e s = go (stepWithin net S W s) refl
         let b₅ : Bool = ltb (s .during) W in
         let q₂ = and-right b₁ (b₂ && (b₃ && (b₄ && b₅))) q in
         let q₄ = and-right b₃ (b₄ && b₅) (and-right b₂ (b₃ && (b₄ && b₅)) q₂) in
-        let x = kn (s .node) (s .frame) (ltb-true (s .node) (net .size) (and-left b₁ (b₂ && (b₃ && (b₄ && b₅))) q)) (ltb-true (s .frame) W (and-left b₂ (b₃ && (b₄ && b₅)) q₂)) in
+        let x = e (s .node) (s .frame) (ltb-true (s .node) (net .size) (and-left b₁ (b₂ && (b₃ && (b₄ && b₅))) q)) (ltb-true (s .frame) W (and-left b₂ (b₃ && (b₄ && b₅)) q₂)) in
         let y =
-        any-same (λ a. sameStep (conclusion net S (known net S l) (s .via) (s .during) a) s) (λ a. sameStep (conclusion net S (known net S m) (s .via) (s .during) a) s) (suc (length (net .pins (s .via))))
+        any-same (λ a. sameStep (conclusion net S kn (s .via) (s .during) a) s) (λ a. sameStep (conclusion net S kn′ (s .via) (s .during) a) s) (suc (length (net .pins (s .via))))
         (λ a _.
         ap (λ (c : Step). sameStep c s)
-        (conclusion-agree net o S W (known net S l) (known net S m) kn (s .via) (s .during) a (ltb-true (s .via) (net .size) (and-left b₄ b₅ q₄)) (ltb-true (s .during) W (and-right b₄ b₅ q₄)))) in
+        (conclusion-agree net o S W kn kn′ e (s .via) (s .during) a (ltb-true (s .via) (net .size) (and-left b₄ b₅ q₄)) (ltb-true (s .during) W (and-right b₄ b₅ q₄)))) in
         λ i. inForce net S (s .via) (s .during) && (not (eqb (x i) (s .value)) && y i)
 
-    go : (b : Bool) → stepWithin net S W s ≡ b → (b && rest l) ≡ (b && rest m)
+    go : (b : Bool) → stepWithin net S W s ≡ b → (b && rest kn) ≡ (b && rest kn′)
     go true q = within q
     go false q = refl
 
@@ -152,6 +140,23 @@ module _ (net : Net) (D : StuckLines) (v w : ℕ → ℕ) where
     pub latchedMarks-agree : (x y : ℕ → ℕ) → SameNodes net x y → latchedMarks net D v x ≡ latchedMarks net D w y
     unfolding latchedMarks
     latchedMarks-agree x y q = build-same (λ _. latchedMark net D v x) (λ _. latchedMark net D w y) (net .size) (λ k n h. latchedMark-agree x y q n h)
+
+module _ (net : Net) (D : StuckLines) (v : ℕ → ℕ) where
+  -- the mark of node n, where k has those of the nodes before it: marksList makes its list by this
+  abbrev pub markNext : (ℕ → ℕ) → List ℕ → ℕ → ℕ
+  markNext latched k n = nodeMark net D v latched (at k) n
+
+  -- THE law of the marks: each node's is the one that the marks of its pins' sources give
+  pub marks-law : (latched : ℕ → ℕ) (n : ℕ) → Ordered net → n < net .size → at (marksList net D v latched) n ≡ nodeMark net D v latched (at (marksList net D v latched)) n
+  unfolding marksList
+  marks-law latched n o h =
+      getD-build (markNext latched) 0 (net .size) h
+      ∙ nodeMark-agree net D v v o (λ m p. refl) latched latched (at (build (markNext latched) n)) (at (build (markNext latched) (net .size))) n h refl
+      (λ m p. build-agree (markNext latched) 0 p (omega arith))
+
+  pub latched-law : (ms : ℕ → ℕ) (n : ℕ) → n < net .size → at (latchedMarks net D v ms) n ≡ latchedMark net D v ms n
+  unfolding latchedMarks
+  latched-law ms n h = getD-build (λ _. latchedMark net D v ms) 0 (net .size) h
 
 module _ (net : Net) (o : Ordered net) (W : ℕ) (kn kn′ : ℕ → ℕ → ℕ) (e : SameWindow net W kn kn′) where
   -- frame t: its marks, and those of the flip-flops in the next frame

@@ -15,7 +15,7 @@ use Rattle.checker.specs.declared.step.Step.{Step}
 use Rattle.circuit.proofs.ClockLaws.{Ordered}
 use Rattle.circuit.proofs.GateLaws.{Refines, RefinesAll, gate-mono, indexed-refines, set-refines, stuck-mono, stuckOr-refines}
 use Rattle.circuit.proofs.ListLaws.{indexed-at, set-either}
-use Rattle.circuit.proofs.ValueLaws.{differing, known-value, stuck-free, unknown-value}
+use Rattle.circuit.proofs.ValueLaws.{differing, known-is, stuck-free, unknown-is}
 use Rattle.circuit.specs.Clock.{pinValues}
 use Rattle.circuit.specs.Fault.{StuckLines}
 use Rattle.circuit.specs.Kind.{controlling, gate, ruleOf}
@@ -75,7 +75,7 @@ module _ (net : Net) (o : Ordered net) (S : ℕ → StuckLines) (v : ℕ → ℕ
   unfolding pinValues
   pin-reads n p k d h u =
       indexed-at (λ k m. stuckOr (S p .pin n k) (v m p)) 0 (net .pins n) k d h
-      ∙ rw zero-add (stuck-free (S p .pin n k) (v (at (net .pins n) k) p) (unknown-value (S p .pin n k) u))
+      ∙ rw zero-add (stuck-free (S p .pin n k) (v (at (net .pins n) k) p) (unknown-is (S p .pin n k) u))
 
   pub output-sound : (kn : ℕ → ℕ → ℕ) → True kn → (n t : ℕ) → n < net .size → inForce net S n t ≡ true
       → Refines (outputConclusion net (S (pinFrame (net .kind n) t)) (λ m. kn m (pinFrame (net .kind n) t)) n) (v n t)
@@ -125,7 +125,7 @@ module _ (net : Net) (o : Ordered net) (S : ℕ → StuckLines) (v : ℕ → ℕ
 
   module _ (W : ℕ) where
     -- a step that follows from what is true is true
-    step-true : (l : List ℕ) (s : Step) → TrueList l → Follows net S W l s → s .value ≡ v (s .node) (s .frame)
+    step-true : (l : List ℕ) (s : Step) → TrueList l → Follows net S W (known net S l) s → s .value ≡ v (s .node) (s .frame)
     step-true l s h f =
         subst (λ (s : Step). Refines (s .value) (v (s .node) (s .frame))) (f .concluded)
         (conclusion-sound (known net S l) (known-true l h) (s .via) (s .during) (f .line) (f .via-within) (f .relation) (f .line-within))
@@ -136,7 +136,7 @@ module _ (net : Net) (o : Ordered net) (S : ℕ → StuckLines) (v : ℕ → ℕ
       pub still-open : b .closed ≡ false
       pub all-true : TrueList (b .values)
 
-    enter-sound : (b : Branch) (s : Step) → Sound b → Follows net S W (b .values) s → Sound (enter net S b s)
+    enter-sound : (b : Branch) (s : Step) → Sound b → Follows net S W (known net S (b .values)) s → Sound (enter net S b s)
     unfolding enter True
     enter-sound b s g f = go (isUnknown (known net S (b .values) (s .node) (s .frame))) refl
       where
@@ -153,7 +153,7 @@ module _ (net : Net) (o : Ordered net) (S : ℕ → StuckLines) (v : ℕ → ℕ
             }
         go false q =
             absurd
-            (f .new (known-true (b .values) (g .all-true) (s .node) (s .frame) (f .node-within) (known-value (known net S (b .values) (s .node) (s .frame)) q)
+            (f .new (known-true (b .values) (g .all-true) (s .node) (s .frame) (f .node-within) (known-is (known net S (b .values) (s .node) (s .frame)) q)
             ∙ sym (step-true (b .values) s (g .all-true) f)))
 
     -- allowed steps leave such a branch as it is

@@ -1,6 +1,7 @@
--- Laws of the definitions, and THE THEOREM; each file uses only those above it.
-pub mod VerdictLaws
+-- Laws of the definitions, which the proofs of this crate and of the crates above cite; and THE THEOREM.
+pub mod WindowLaws
 pub mod Agreement
+pub mod VerdictLaws
 pub mod HybridRuns
 pub mod Model
 pub mod Conclusions

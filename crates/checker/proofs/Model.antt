@@ -10,7 +10,7 @@ use Rattle.circuit.proofs.BoolLaws.{and-left, and-right}
 use Rattle.circuit.proofs.ClockLaws.{Ordered, latched-at, seen-law, seenBy-gate, seenBy-given}
 use Rattle.circuit.proofs.GateLaws.{Refines, flip-flop-value, stuck-refines}
 use Rattle.circuit.proofs.RunLaws.{start-latched}
-use Rattle.circuit.proofs.ValueLaws.{unknown-value}
+use Rattle.circuit.proofs.ValueLaws.{unknown-is}
 use Rattle.circuit.specs.Clock.{latchedBy, pinValues, seenBy}
 use Rattle.circuit.specs.ClockLists.{InputBits, LatchedBits, clockStart, latchedAfter, seenAfter}
 use Rattle.circuit.specs.Fault.{StuckLines}
@@ -69,7 +69,7 @@ module _ (net : Net) (o : Ordered net) (S : ℕ → StuckLines) (X : ℕ → Lis
       → v n t ≡ outputConclusion net (S (pinFrame (net .kind n) t)) (λ m. v m (pinFrame (net .kind n) t)) n
   unfolding inForce held outputConclusion
   seen-relation n t h r =
-      go (isFlipFlop (net .kind n)) refl t (unknown-value (S t .node n) (and-left (isUnknown (S t .node n)) (hasRelation (net .kind n) t) r))
+      go (isFlipFlop (net .kind n)) refl t (unknown-is (S t .node n) (and-left (isUnknown (S t .node n)) (hasRelation (net .kind n) t) r))
       (and-right (isUnknown (S t .node n)) (hasRelation (net .kind n) t) r)
     where
       go : (b : Bool) → isFlipFlop (net .kind n) ≡ b → (t : ℕ) → 2 ≤ S t .node n → hasRelation (net .kind n) t ≡ true

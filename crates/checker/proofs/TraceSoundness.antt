@@ -8,20 +8,20 @@ use native.Mathlib.Nat.{add-suc, add-zero, suc-add}
 use native.Mathlib.Omega.{arith}
 use lib.Dec.{eqb}
 use borrow.Author.Tests.{eq-eqb, eqb-true}
-use Rattle.checker.proofs.Agreement.{nodeMark-agree}
+use Rattle.checker.proofs.Agreement.{latched-law, marks-law}
 use Rattle.checker.proofs.HybridRuns.{seenIn, seenIn-agree}
 use Rattle.checker.specs.Trace.{effectDies, gateMark, latchedMark, latchedMarks, latchedUntouched, mark, marksList, nodeMark, outputUntouched, pinMark, siteMark, someMark, untouchedValue}
 use Rattle.checker.specs.Window.{presentBelow}
 use Rattle.circuit.proofs.BoolLaws.{and-left, and-right, implied}
 use Rattle.circuit.proofs.ClockLaws.{Ordered, latched-at, seen-law}
 use Rattle.circuit.proofs.GateLaws.{Refines, RefinesAll, gate-mono, indexed-refines}
-use Rattle.circuit.proofs.ListLaws.{Below, bcons, bnil, build-agree, every-at, getD-build}
-use Rattle.circuit.proofs.ValueLaws.{known-value}
+use Rattle.circuit.proofs.ListLaws.{Below, bcons, bnil, every-at}
+use Rattle.circuit.proofs.ValueLaws.{known-is}
 use Rattle.circuit.specs.Clock.{latchedBy, pinValues, seenBy}
 use Rattle.circuit.specs.ClockLists.{clockStart, latchedAfter, seenAfter}
 use Rattle.circuit.specs.Fault.{StuckLines, noneStuck}
 use Rattle.circuit.specs.Kind.{gate, isFlipFlop, isGiven, isOutput}
-use Rattle.circuit.specs.Lists.{at, build, every, indexed}
+use Rattle.circuit.specs.Lists.{at, every, indexed}
 use Rattle.circuit.specs.Netlist.{Net}
 use Rattle.circuit.specs.Value.{isUnknown, stuckOr}
 
@@ -53,19 +53,6 @@ unmarked-same (bcons {x} {xs} p r) f g h k e q = go (f k x) refl e (λ e₁. unm
 untouched-refines : (m v x : ℕ) → (m ≡ 0 → Refines v x) → Refines (untouchedValue m v) x
 untouched-refines zero v x h = h refl
 untouched-refines (suc m) v x h = λ k. absurd (omega arith)
-
-module _ (net : Net) (D : StuckLines) (kn : ℕ → ℕ) where
-  -- the mark of node n, where l has those of the nodes before it: marksList makes its list by this
-  abbrev pub markNext : (ℕ → ℕ) → List ℕ → ℕ → ℕ
-  markNext latched l n = nodeMark net D kn latched (at l) n
-
-  -- THE law of the marks: each node's is what the marks of its sources say
-  pub marks-law : (latched : ℕ → ℕ) (n : ℕ) → Ordered net → n < net .size → at (marksList net D kn latched) n ≡ nodeMark net D kn latched (at (marksList net D kn latched)) n
-  unfolding marksList
-  marks-law latched n o h =
-      getD-build (markNext latched) 0 (net .size) h
-      ∙ nodeMark-agree net D kn kn o (λ m p. refl) latched latched (at (build (markNext latched) n)) (at (build (markNext latched) (net .size))) n h refl
-      (λ m p. build-agree (markNext latched) 0 p (omega arith))
 
 -- One frame: a has the values without the lines of D, b those with them; ga and gb what the two are given. What is known is true of a.
 module _ (net : Net) (o : Ordered net) (D : StuckLines) (kn ga gb latched a b : ℕ → ℕ)
@@ -105,7 +92,7 @@ module _ (net : Net) (o : Ordered net) (D : StuckLines) (kn ga gb latched a b : 
             → _≡_ {A = ℕ} (elim q [ true ↦ mark (isUnknown (gate (net .kind n) untouched)) | false ↦ 0 ]) 0
             → gate (net .kind n) (pinValues net noneStuck a n) ≡ gate (net .kind n) (pinValues net D b n)
         go true q e =
-            let w : gate (net .kind n) untouched < 2 = known-value (gate (net .kind n) untouched) (no-mark (isUnknown (gate (net .kind n) untouched)) e) in
+            let w : gate (net .kind n) untouched < 2 = known-is (gate (net .kind n) untouched) (no-mark (isUnknown (gate (net .kind n) untouched)) e) in
             sym (gate-mono (net .kind n) refines-a w) ∙ gate-mono (net .kind n) refines-b w
         go false q e = ap (gate (net .kind n)) (pins-same q)
 
@@ -195,12 +182,12 @@ module _ (net : Net) (o : Ordered net) (kn : ℕ → ℕ → ℕ) where
 
     -- and a flip-flop without a mark in the next frame has latched the same
     next-same : (n : ℕ) → n < net .size → at (marksNext t D latched) n ≡ 0 → at (latchedAfter net noneStuck x lA) n ≡ at (latchedAfter net D x lB) n
-    unfolding latchedMarks latchedAfter
+    unfolding latchedAfter
     next-same n h e =
         latched-at net noneStuck (at (seenAfter net noneStuck x lA)) n h
         ∙ latched-same net o D (λ n. kn n t) (clockStart net x lA) (clockStart net x lB) (at latched) (at (seenAfter net noneStuck x lA)) (at (seenAfter net D x lB))
         a-law b-law inputs-same flip-flops-same true-now n h
-        (sym (getD-build (λ _. latchedMark net D (λ n. kn n t) (at (marksAt t D latched))) 0 (net .size) h) ∙ e)
+        (sym (latched-law net D (λ n. kn n t) (at (marksAt t D latched)) n h) ∙ e)
         ∙ sym (latched-at net D (at (seenAfter net D x lB)) n h)
 
   -- Where the effect dies, the run with the lines of D stuck in its first clock shows the outputs of the good run at every clock.

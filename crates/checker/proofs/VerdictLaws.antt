@@ -8,9 +8,10 @@ use native.Mathlib.Omega.{arith}
 use lib.Dec.{eqb, ltb}
 use lib.ListN.{length}
 use borrow.Author.Tests.{eq-eqb, eqb-false, eqb-true, lt-ltb, ltb-true, ne-eqb, not-true}
-use Rattle.checker.specs.Certificate.{cOf, faultOf, framesOf, splitFrame, splitNode, stepsOf}
-use Rattle.checker.specs.Checker.{CheckerCall, accepted, branchCloses, checkerTests, checking, follows, judged, replay, replayed, sameStep, stepWithin, turnedBack, verdict}
+use Rattle.checker.specs.Certificate.{cOf, fOf, faultOf, framesOf, splitFrame, splitNode, stepsOf}
+use Rattle.checker.specs.Checker.{CheckerCall, accepted, branchCloses, checkerTests, checking, follows, judged, judgement, replay, replayed, sameStep, stepWithin, turnedBack, verdict}
 use Rattle.checker.specs.Window.{Branch, begin, conclusion, enter, inForce, known, presentBelow}
+use Rattle.checker.specs.declared.check.Judgement.{Judgement}
 use Rattle.checker.specs.declared.step.Step.{Step}
 use Rattle.circuit.proofs.BoolLaws.{and-left, and-right}
 use Rattle.circuit.proofs.ListLaws.{any-by, any-found}
@@ -22,18 +23,18 @@ use Rattle.circuit.specs.Lists.{any}
 use Rattle.circuit.specs.Netlist.{Net, netOf, nodeCount, pinCount, reading, sound}
 
 -- A step that follows: it names nodes and frames of the window and a value; the relation that it names is in force and concludes it from
--- what is known (l has the values concluded before it), of its output or of one of its pins; and its value is not known already.
-pub record Follows (net : Net) (S : ℕ → StuckLines) (W : ℕ) (l : List ℕ) (s : Step) : Type 0 where
+-- what is known (kn, by node and frame), of its output or of one of its pins; and its value is not known already.
+pub record Follows (net : Net) (S : ℕ → StuckLines) (W : ℕ) (kn : ℕ → ℕ → ℕ) (s : Step) : Type 0 where
   pub node-within : s .node < net .size
   pub frame-within : s .frame < W
   pub value-binary : s .value < 2
   pub via-within : s .via < net .size
   pub during-within : s .during < W
   pub relation : inForce net S (s .via) (s .during) ≡ true
-  pub new : known net S l (s .node) (s .frame) ≡ s .value → ⊥
+  pub new : kn (s .node) (s .frame) ≡ s .value → ⊥
   pub line : ℕ
   pub line-within : line < suc (length (net .pins (s .via)))
-  pub concluded : conclusion net S (known net S l) (s .via) (s .during) line ≡ s
+  pub concluded : conclusion net S kn (s .via) (s .during) line ≡ s
 
 same-step : (a s : Step) → a .via ≡ s .via → a .during ≡ s .during → sameStep a s ≡ true → a ≡ s
 same-step a s p q e =
@@ -58,11 +59,11 @@ module _ (net : Net) (S : ℕ → StuckLines) where
   conclusion-during kn n t zero = refl
   conclusion-during kn n t (suc k) = refl
 
-module _ (net : Net) (S : ℕ → StuckLines) (W : ℕ) (l : List ℕ) (s : Step) where
+module _ (net : Net) (S : ℕ → StuckLines) (W : ℕ) (kn : ℕ → ℕ → ℕ) (s : Step) where
   abbrev concludes : ℕ → Bool
-  concludes a = sameStep (conclusion net S (known net S l) (s .via) (s .during) a) s
+  concludes a = sameStep (conclusion net S kn (s .via) (s .during) a) s
 
-  pub follows-says : follows net S W l s ≡ true → Follows net S W l s
+  pub follows-says : follows net S W kn s ≡ true → Follows net S W kn s
   unfolding follows stepWithin
   follows-says e =
       record {
@@ -72,12 +73,12 @@ module _ (net : Net) (S : ℕ → StuckLines) (W : ℕ) (l : List ℕ) (s : Step
         via-within = ltb-true (s .via) (net .size) (and-left a₄ a₅ p₄);
         during-within = ltb-true (s .during) W (and-right a₄ a₅ p₄);
         relation = and-left b₁ (b₂ && b₃) q;
-        new = eqb-false (known net S l (s .node) (s .frame)) (s .value) (not-true (eqb (known net S l (s .node) (s .frame)) (s .value)) (and-left b₂ b₃ q₂));
+        new = eqb-false (kn (s .node) (s .frame)) (s .value) (not-true (eqb (kn (s .node) (s .frame)) (s .value)) (and-left b₂ b₃ q₂));
         line = found .0;
         line-within = found .1;
-        concluded = same-step (conclusion net S (known net S l) (s .via) (s .during) (found .0)) s
-            (conclusion-via net S (known net S l) (s .via) (s .during) (found .0))
-            (conclusion-during net S (known net S l) (s .via) (s .during) (found .0))
+        concluded = same-step (conclusion net S kn (s .via) (s .during) (found .0)) s
+            (conclusion-via net S kn (s .via) (s .during) (found .0))
+            (conclusion-during net S kn (s .via) (s .during) (found .0))
             (found .2);
       }
     where
@@ -100,7 +101,7 @@ module _ (net : Net) (S : ℕ → StuckLines) (W : ℕ) (l : List ℕ) (s : Step
       b₁ = inForce net S (s .via) (s .during)
 
       b₂ : Bool
-      b₂ = not (eqb (known net S l (s .node) (s .frame)) (s .value))
+      b₂ = not (eqb (kn (s .node) (s .frame)) (s .value))
 
       b₃ : Bool
       b₃ = any (concludes) (suc (length (net .pins (s .via))))
@@ -127,7 +128,7 @@ module _ (net : Net) (S : ℕ → StuckLines) (W : ℕ) (l : List ℕ) (s : Step
       found = any-found (concludes) (suc (length (net .pins (s .via)))) (and-right b₂ b₃ q₂)
 
   -- and nothing else is asked of a step
-  pub says-follows : Follows net S W l s → follows net S W l s ≡ true
+  pub says-follows : Follows net S W kn s → follows net S W kn s ≡ true
   unfolding follows stepWithin
   says-follows f =
       rw (
@@ -137,22 +138,22 @@ module _ (net : Net) (S : ℕ → StuckLines) (W : ℕ) (l : List ℕ) (s : Step
         lt-ltb (s .via) (net .size) (f .via-within),
         lt-ltb (s .during) W (f .during-within),
         f .relation,
-        ne-eqb (known net S l (s .node) (s .frame)) (s .value) (f .new),
+        ne-eqb (kn (s .node) (s .frame)) (s .value) (f .new),
       )
       (any-by (concludes) (suc (length (net .pins (s .via)))) (f .line) (f .line-within)
-      (step-same (conclusion net S (known net S l) (s .via) (s .during) (f .line)) s (f .concluded)))
+      (step-same (conclusion net S kn (s .via) (s .during) (f .line)) s (f .concluded)))
 
 module _ (net : Net) (S : ℕ → StuckLines) (W : ℕ) where
   -- Steps that are allowed, read one after the other from a branch to the branch that they leave: each follows from what is known before
   -- it, and none comes after a contradiction.
   pub data Allowed : List Step → Branch → Branch → Type 0 where
     no-step : {b : Branch} → Allowed [] b b
-    next-step : {s : Step} {ss : List Step} {b e : Branch} → b .closed ≡ false → Follows net S W (b .values) s → Allowed ss (enter net S b s) e → Allowed (s ∷ ss) b e
+    next-step : {s : Step} {ss : List Step} {b e : Branch} → b .closed ≡ false → Follows net S W (known net S (b .values)) s → Allowed ss (enter net S b s) e → Allowed (s ∷ ss) b e
 
   -- steps of which one is not allowed: it comes after a contradiction or does not follow
   pub data NotAllowed : List Step → Branch → Type 0 where
     after-contradiction : {s : Step} {ss : List Step} {b : Branch} → b .closed ≡ true → NotAllowed (s ∷ ss) b
-    not-following : {s : Step} {ss : List Step} {b : Branch} → (Follows net S W (b .values) s → ⊥) → NotAllowed (s ∷ ss) b
+    not-following : {s : Step} {ss : List Step} {b : Branch} → (Follows net S W (known net S (b .values)) s → ⊥) → NotAllowed (s ∷ ss) b
     later-step : {s : Step} {ss : List Step} {b : Branch} → NotAllowed ss (enter net S b s) → NotAllowed (s ∷ ss) b
 
   abbrev read-on : List Step → Branch → Step → Bool → Option Branch
@@ -161,13 +162,13 @@ module _ (net : Net) (S : ℕ → StuckLines) (W : ℕ) where
   pub replay-allowed : (ss : List Step) (b e : Branch) → replay net S W ss b ≡ some e → Allowed ss b e
   unfolding replay
   replay-allowed [] b e q = let p : b ≡ e = cc in subst (Allowed [] b) p no-step
-  replay-allowed (s ∷ ss) b e q = go (not (b .closed) && follows net S W (b .values) s) refl q (λ r. replay-allowed ss (enter net S b s) e r)
+  replay-allowed (s ∷ ss) b e q = go (not (b .closed) && follows net S W (known net S (b .values)) s) refl q (λ r. replay-allowed ss (enter net S b s) e r)
     where
-      go : (x : Bool) → (not (b .closed) && follows net S W (b .values) s) ≡ x → read-on ss b s x ≡ some e
+      go : (x : Bool) → (not (b .closed) && follows net S W (known net S (b .values)) s) ≡ x → read-on ss b s x ≡ some e
           → (replay net S W ss (enter net S b s) ≡ some e → Allowed ss (enter net S b s) e) → Allowed (s ∷ ss) b e
       go true p q r =
-          next-step (not-true (b .closed) (and-left (not (b .closed)) (follows net S W (b .values) s) p))
-          (follows-says net S W (b .values) s (and-right (not (b .closed)) (follows net S W (b .values) s) p))
+          next-step (not-true (b .closed) (and-left (not (b .closed)) (follows net S W (known net S (b .values)) s) p))
+          (follows-says net S W (known net S (b .values)) s (and-right (not (b .closed)) (follows net S W (known net S (b .values)) s) p))
           (r q)
       go false p q r = absurd (let z : _≡_ {A = ℕ} 0 1 = cc in omega arith)
 
@@ -175,32 +176,32 @@ module _ (net : Net) (S : ℕ → StuckLines) (W : ℕ) where
   unfolding replay
   allowed-replay no-step = refl
   allowed-replay (next-step {s} {ss} {b} {e} o f r) =
-      let q : (not (b .closed) && follows net S W (b .values) s) ≡ true = rw (o, says-follows net S W (b .values) s f) in
+      let q : (not (b .closed) && follows net S W (known net S (b .values)) s) ≡ true = rw (o, says-follows net S W (known net S (b .values)) s f) in
       ap (read-on ss b s) q ∙ allowed-replay r
 
   pub replay-refused : (ss : List Step) (b : Branch) → replay net S W ss b ≡ none → NotAllowed ss b
   unfolding replay
   replay-refused [] b q = absurd (let z : _≡_ {A = ℕ} 0 1 = cc in omega arith)
-  replay-refused (s ∷ ss) b q = go (b .closed) refl (follows net S W (b .values) s) refl q (λ r. replay-refused ss (enter net S b s) r)
+  replay-refused (s ∷ ss) b q = go (b .closed) refl (follows net S W (known net S (b .values)) s) refl q (λ r. replay-refused ss (enter net S b s) r)
     where
-      go : (x : Bool) → b .closed ≡ x → (y : Bool) → follows net S W (b .values) s ≡ y → read-on ss b s (not x && y) ≡ none
+      go : (x : Bool) → b .closed ≡ x → (y : Bool) → follows net S W (known net S (b .values)) s ≡ y → read-on ss b s (not x && y) ≡ none
           → (replay net S W ss (enter net S b s) ≡ none → NotAllowed ss (enter net S b s)) → NotAllowed (s ∷ ss) b
       go true p y h q r = after-contradiction p
       go false p true h q r = later-step (r q)
-      go false p false h q r = not-following (λ f. false≢true (sym h ∙ says-follows net S W (b .values) s f))
+      go false p false h q r = not-following (λ f. false≢true (sym h ∙ says-follows net S W (known net S (b .values)) s f))
 
   pub refused-replay : {ss : List Step} {b : Branch} → NotAllowed ss b → replay net S W ss b ≡ none
   unfolding replay
   refused-replay (after-contradiction {s} {ss} {b} p) =
-      let q : (not (b .closed) && follows net S W (b .values) s) ≡ false = rw p in
+      let q : (not (b .closed) && follows net S W (known net S (b .values)) s) ≡ false = rw p in
       ap (read-on ss b s) q
-  refused-replay (not-following {s} {ss} {b} n) = go (not (b .closed)) (follows net S W (b .values) s) refl
+  refused-replay (not-following {s} {ss} {b} n) = go (not (b .closed)) (follows net S W (known net S (b .values)) s) refl
     where
-      go : (x y : Bool) → follows net S W (b .values) s ≡ y → read-on ss b s (x && y) ≡ none
-      go x true q = absurd (n (follows-says net S W (b .values) s q))
+      go : (x y : Bool) → follows net S W (known net S (b .values)) s ≡ y → read-on ss b s (x && y) ≡ none
+      go x true q = absurd (n (follows-says net S W (known net S (b .values)) s q))
       go true false q = refl
       go false false q = refl
-  refused-replay (later-step {s} {ss} {b} r) = go (not (b .closed) && follows net S W (b .values) s) (refused-replay r)
+  refused-replay (later-step {s} {ss} {b} r) = go (not (b .closed) && follows net S W (known net S (b .values)) s) (refused-replay r)
     where
       go : (x : Bool) → replay net S W ss (enter net S b s) ≡ none → read-on ss b s x ≡ none
       go true q = q
@@ -286,6 +287,55 @@ module _ (net : Net) (bs : List ℕ) where
   pub verdict-closed : (x y : Branch) → branchCloses net bs x ≡ true → branchCloses net bs y ≡ true → verdict net bs (some x) (some y) ≡ accepted (cOf bs)
   unfolding verdict
   verdict-closed x y p q = rw (p, q)
+
+-- the verdict, from what was found of each branch
+module _ (net : Net) (bs : List ℕ) where
+  -- j is what is found of the branch
+  abbrev pub FoundOf : Option Branch → Judgement → Type 0
+  FoundOf x j = judgement net (linesOf (faultOf bs)) (cOf bs) (fOf bs) x ≡ j
+
+  not-closing : (r : Bool) → cond r Judgement.Closes Judgement.StaysOpen ≡ Judgement.NotAllowed → ⊥
+  not-closing true e = let z : _≡_ {A = ℕ} 0 1 = cc in omega arith
+  not-closing false e = let z : _≡_ {A = ℕ} 0 1 = cc in omega arith
+
+  is-closing : (r : Bool) → cond r Judgement.Closes Judgement.StaysOpen ≡ Judgement.Closes → r ≡ true
+  is-closing true e = refl
+  is-closing false e = absurd (let z : _≡_ {A = ℕ} 0 1 = cc in omega arith)
+
+  is-open : (r : Bool) → cond r Judgement.Closes Judgement.StaysOpen ≡ Judgement.StaysOpen → r ≡ false
+  is-open true e = absurd (let z : _≡_ {A = ℕ} 0 1 = cc in omega arith)
+  is-open false e = refl
+
+  -- 14: a step of branch 0 or of branch 1 is not allowed, whatever is found of the other
+  pub found-zero-refused : (x y : Option Branch) → FoundOf x Judgement.NotAllowed → verdict net bs x y ≡ refused 14
+  unfolding judgement
+  found-zero-refused none y e = verdict-zero-refused net bs y
+  found-zero-refused (some x) y e = absurd (not-closing (branchCloses net bs x) e)
+
+  pub found-one-refused : (x y : Option Branch) → FoundOf y Judgement.NotAllowed → verdict net bs x y ≡ refused 14
+  unfolding judgement
+  found-one-refused x none e = verdict-one-refused net bs x
+  found-one-refused x (some y) e = absurd (not-closing (branchCloses net bs y) e)
+
+  -- 15: all steps are allowed, and a branch stays open
+  pub found-zero-open : (x y : Option Branch) → FoundOf x Judgement.StaysOpen → (FoundOf y Judgement.NotAllowed → ⊥) → verdict net bs x y ≡ refused 15
+  unfolding judgement
+  found-zero-open none y e h = absurd (let z : _≡_ {A = ℕ} 0 1 = cc in omega arith)
+  found-zero-open (some x) none e h = absurd (h refl)
+  found-zero-open (some x) (some y) e h = verdict-open net bs x y (rw (is-open (branchCloses net bs x) e))
+
+  pub found-one-open : (x y : Option Branch) → FoundOf x Judgement.Closes → FoundOf y Judgement.StaysOpen → verdict net bs x y ≡ refused 15
+  unfolding judgement
+  found-one-open none y e h = absurd (let z : _≡_ {A = ℕ} 0 1 = cc in omega arith)
+  found-one-open (some x) none e h = absurd (let z : _≡_ {A = ℕ} 0 1 = cc in omega arith)
+  found-one-open (some x) (some y) e h = verdict-open net bs x y (rw (is-closing (branchCloses net bs x) e, is-open (branchCloses net bs y) h))
+
+  -- accepted: both close
+  pub found-closed : (x y : Option Branch) → FoundOf x Judgement.Closes → FoundOf y Judgement.Closes → verdict net bs x y ≡ accepted (cOf bs)
+  unfolding judgement
+  found-closed none y e h = absurd (let z : _≡_ {A = ℕ} 0 1 = cc in omega arith)
+  found-closed (some x) none e h = absurd (let z : _≡_ {A = ℕ} 0 1 = cc in omega arith)
+  found-closed (some x) (some y) e h = verdict-closed net bs x y (is-closing (branchCloses net bs x) e) (is-closing (branchCloses net bs y) h)
 
 -- the netlist is sound and all head tests pass
 pub record Ready (a : CheckerCall) : Type 0 where

@@ -1,18 +1,19 @@
 -- 01, "Certificate and checker" and "Turned back": which steps are allowed, when a branch closes, and what the checker answers and leaves.
 use mathlib.Core.Bool.{Bool, _&&_, cond, false, not, true}
-use mathlib.Core.List.{List, [], _++_, _∷_}
+use mathlib.Core.List.{List, [], _∷_}
 use mathlib.Core.Option.{Option, none, some}
 use Prim.Native.Nat.{_*_, suc, ℕ}
 use lib.Dec.{eqb, leb, ltb}
-use lib.ListN.{drop, length, replicate}
+use lib.ListN.{length}
 use Rattle.circuit.specs.Answer.{Answer, Outcome, Test, answered, outcome, refusal, refused}
 use Rattle.circuit.specs.Fault.{StuckLines, faultExists, linesOf}
 use Rattle.circuit.specs.Lists.{any}
 use Rattle.circuit.specs.Netlist.{Net, netOf, reading}
 use Rattle.checker.specs.Certificate.{cOf, fOf, faultOf, framesOf, headLength, pairsRight, splitFrame, splitNode, stepsOf}
-use Rattle.checker.specs.Trace.{effectDies}
+use Rattle.checker.specs.Trace.{cleared, effectDies}
 use Rattle.checker.specs.Window.{Branch, begin, conclusion, enter, inForce, known, presentBelow}
 use Rattle.checker.specs.declared.check.Checked.{Checked}
+use Rattle.checker.specs.declared.check.Judgement.{Judgement}
 use Rattle.checker.specs.declared.step.Step.{Step}
 
 -- the same line, frame and value
@@ -25,22 +26,27 @@ module _ (net : Net) (S : ℕ → StuckLines) (W : ℕ) where
   unfoldable pub stepWithin : Step → Bool
   stepWithin s = ltb (s .node) (net .size) && (ltb (s .frame) W && (ltb (s .value) 2 && (ltb (s .via) (net .size) && ltb (s .during) W)))
 
-  -- A step must follow by its relation from what is known before it (l has the values concluded before it) and be no value already known.
-  unfoldable pub follows : List ℕ → Step → Bool
-  follows l s =
+  -- A step must follow by its relation from what is known before it (kn, by node and frame) and be no value already known.
+  unfoldable pub follows : (ℕ → ℕ → ℕ) → Step → Bool
+  follows kn s =
       stepWithin s
       && (inForce net S (s .via) (s .during)
-      && (not (eqb (known net S l (s .node) (s .frame)) (s .value))
-      && any (λ a. sameStep (conclusion net S (known net S l) (s .via) (s .during) a) s) (suc (length (net .pins (s .via))))))
+      && (not (eqb (kn (s .node) (s .frame)) (s .value))
+      && any (λ a. sameStep (conclusion net S kn (s .via) (s .during) a) s) (suc (length (net .pins (s .via))))))
 
   -- the branch after its steps, read one after the other; none where one is not allowed: it does not follow, or comes after a contradiction
   unfoldable pub replay : List Step → Branch → Option Branch
   replay [] b = some b
-  replay (s ∷ ss) b = elim (not (b .closed) && follows (b .values) s) [ true ↦ replay ss (enter net S b s) | false ↦ none ]
+  replay (s ∷ ss) b = elim (not (b .closed) && follows (known net S (b .values)) s) [ true ↦ replay ss (enter net S b s) | false ↦ none ]
 
 -- A branch closes by contradiction, or if its effect trace dies.
 unfoldable pub closes : Net → StuckLines → ℕ → ℕ → Branch → Bool
 closes net f c F b = elim (b .closed) [ true ↦ true | false ↦ effectDies net (known net (presentBelow c f) (b .values)) F c f [] ]
+
+-- what is found of a branch: a step that is not allowed, or whether it closes
+unfoldable pub judgement : Net → StuckLines → ℕ → ℕ → Option Branch → Judgement
+judgement net f c F none = Judgement.NotAllowed
+judgement net f c F (some b) = cond (closes net f c F b) Judgement.Closes Judgement.StaysOpen
 
 module _ (net : Net) (bs : List ℕ) where
   -- branch v of the certificate, as its steps leave it
@@ -84,10 +90,6 @@ checkerTests =
     ∷ record { number = 11; passes = λ a. leb (windowSize a) (length (a .first)) && leb (windowSize a) (length (a .second)) }
     ∷ record { number = 13; passes = λ a. ltb (splitNode (a .certificate)) (netOf (a .netlist) .size) && ltb (splitFrame (a .certificate)) (framesOf (a .certificate)) }
     ∷ []
-
--- the first k bytes 0, the others as they were
-abbrev pub cleared : ℕ → List ℕ → List ℕ
-cleared k l = replicate k 0 ++ drop k l
 
 -- 1 to 13 alter nothing. After 14, 15 and accepted the first N × W bytes of both work slices are 0.
 abbrev pub turnedBack : ℕ → CheckerCall → Outcome

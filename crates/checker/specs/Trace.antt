@@ -73,3 +73,21 @@ effectDies net kn zero t D latched =
 effectDies net kn (suc r) t D latched =
     let l = marksList net D (λ n. kn n t) (at latched) in
     every (outputUntouched net l) (net .size) && effectDies net kn r (suc t) noneStuck (latchedMarks net D (λ n. kn n t) (at l))
+
+-- the answer of the trace of a window, and what the lent slice of marks then holds
+pub record Traced : Type 0 where
+  pub dies : Bool
+  pub marks : List ℕ
+
+abbrev pub traced : Bool → List ℕ → Traced
+traced dies marks = record { dies = dies; marks = marks }
+
+-- the first k bytes 0, the others as they were
+abbrev pub cleared : ℕ → List ℕ → List ℕ
+cleared k l = replicate k 0 ++ drop k l
+
+-- The trace from frame c on, F frames after it: whether the effect dies. The slice of marks has to have a byte for each node and frame
+-- from c on, and these are 0 afterwards; a shorter one stays as it is, and nothing is said to die.
+unfoldable pub tracing : Net → StuckLines → ℕ → ℕ → (ℕ → ℕ → ℕ) → List ℕ → Traced
+tracing net f c F kn marks =
+    cond (leb (net .size * (F + 1)) (length marks)) (traced (effectDies net kn F c f []) (cleared (net .size * (F + 1)) marks)) (traced false marks)

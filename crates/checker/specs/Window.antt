@@ -1,11 +1,13 @@
 -- 01, "Knowledge": what is known in a window of frames, the relation of a node at a frame, and what it concludes.
 use mathlib.Core.Bool.{Bool, _&&_, cond, false, not, true}
 use mathlib.Core.List.{List, [], _++_, _∷_}
-use Prim.Native.Nat.{_*_, _+_, pred, suc, zero, ℕ}
+use mathlib.Core.Path.{_≡_}
+use Prim.Native.Nat.{_*_, _+_, _<_, pred, suc, zero, ℕ}
 use lib.ListN.{getD, replicate, set}
 use Rattle.circuit.specs.Clock.{pinValues}
 use Rattle.circuit.specs.Fault.{StuckLines, noneStuck}
 use Rattle.circuit.specs.Kind.{controlling, gate, isFlipFlop, isGiven, isInput, ruleOf}
+use Rattle.circuit.specs.Lists.{at}
 use Rattle.circuit.specs.Netlist.{Net}
 use Rattle.circuit.specs.Value.{differ, isUnknown, neg, stuckOr}
 use Rattle.checker.specs.declared.step.Step.{Step}
@@ -42,6 +44,10 @@ module _ (net : Net) (s : StuckLines) (v : ℕ → ℕ) where
         | false ↦ elim (isUnknown (s .pin n k) && differ (gate (net .kind n) (set vs k (neg w))) o) [ true ↦ w | false ↦ 2 ]
       ]
 
+-- what is known, as it lies in bytes: frame by frame, a byte for each of N nodes
+abbrev pub knownIn : List ℕ → ℕ → ℕ → ℕ → ℕ
+knownIn bytes N n t = at bytes (t * N + n)
+
 -- the values concluded so far (frame by frame, 2 for unknown), the steps made, and whether a contradiction was met
 pub record Branch : Type 0 where
   pub values : List ℕ
@@ -57,6 +63,10 @@ module _ (net : Net) (S : ℕ → StuckLines) where
   -- what is known of node n at frame t: a held value, or a concluded one
   unfoldable pub known : List ℕ → ℕ → ℕ → ℕ
   known l n t = stuckOr (held n t) (getD l (t * net .size + n) 2)
+
+  -- the bytes hold what is known in a window of W frames, where the values l were concluded
+  unfoldable pub Holds : ℕ → List ℕ → List ℕ → Type 0
+  Holds W l bytes = (n t : ℕ) → n < net .size → t < W → knownIn bytes (net .size) n t ≡ known l n t
 
   -- the relation of node n at frame t is there, and something may be concluded through it: not that of a held node
   unfoldable pub inForce : ℕ → ℕ → Bool

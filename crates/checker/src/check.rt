@@ -1,4 +1,5 @@
 // The checker.
+ghost use mathlib.Core.Path.{_≡_};
 
 // The checker's answer: accepted with c, or the refusal's number.
 pub enum Checked {
@@ -6,9 +7,9 @@ pub enum Checked {
     Refused(u8),
 }
 
-fn c_of(answer: Checked) -> u8 {
-    match answer {
-        Checked::Accepted(c) => c,
-        Checked::Refused(_) => 0,
-    }
+// What is found of a branch: a step that is not allowed, or whether it closes.
+pub enum Judgement {
+    NotAllowed,
+    StaysOpen,
+    Closes,
 }

@@ -1,6 +1,12 @@
 // The checker of certificates: what is known in a window of frames, the fault's effect, and the verdict.
 mod check;
+mod relation;
 mod step;
+mod trace;
+mod window;
 
 pub use check::Checked;
+pub use relation::conclude;
+pub use relation::in_force;
 pub use step::Step;
+pub use window::place_of;

@@ -1,11 +1,14 @@
 -- Laws of what a node's pins read, as the code walks them: by pin number, from the last pin on.
+use mathlib.Core.Bool.{Bool, cond, false, true}
 use mathlib.Core.List.{List}
-use mathlib.Core.Path.{_∙_, _≡_, subst}
+use mathlib.Core.Path.{_∙_, _≡_, refl, subst}
 use Prim.Native.Nat.{_+_, _-_, _<_, _≤_, suc, zero, ℕ}
 use native.Mathlib.Nat.{zero-add}
 use native.Mathlib.Omega.{arith}
-use lib.ListN.{drop, drop-of-length-le, length}
-use lib.Seq.{drop-cons}
+use lib.Dec.{eqb}
+use lib.ListN.{drop, drop-of-length-le, length, length-set, set}
+use lib.Seq.{drop-cons, getD-set-other, getD-set-same}
+use borrow.Author.Tests.{eqb-false, eqb-true}
 use Rattle.circuit.proofs.ListLaws.{indexed-at, length-indexed}
 use Rattle.circuit.proofs.NetlistLaws.{pins-at, pins-length}
 use Rattle.circuit.specs.Clock.{pinValues}
@@ -27,6 +30,21 @@ module _ (bs : List ℕ) (s : StuckLines) (v : ℕ → ℕ) (n : ℕ) where
   pinValues-at k h =
       indexed-at (λ k m. stuckOr (s .pin n k) (v m)) 0 (netOf bs .pins n) k 0 (omega (arith, pins-length bs n))
       ∙ rw (zero-add, pins-at bs n k h)
+
+-- the same with one pin taken to read another value
+module _ (bs : List ℕ) (s : StuckLines) (v : ℕ → ℕ) (n a w : ℕ) where
+  pub length-assumed : length (set (pinValues (netOf bs) s v n) a w) ≡ lengthOf bs n
+  length-assumed = simp length-set (length-pinValues bs s v n)
+
+  pub assumed-at : (k : ℕ) → k < lengthOf bs n → at (set (pinValues (netOf bs) s v n) a w) k ≡ cond (eqb k a) w (stuckOr (s .pin n k) (v (sourceOf bs n k)))
+  assumed-at k h = go (eqb k a) refl
+    where
+      vs : List ℕ
+      vs = pinValues (netOf bs) s v n
+
+      go : (b : Bool) → eqb k a ≡ b → at (set vs a w) k ≡ cond b w (stuckOr (s .pin n k) (v (sourceOf bs n k)))
+      go true e = rw (eqb-true k a e) (getD-set-same vs a w 0 (omega (arith, length-pinValues bs s v n, eqb-true k a e)))
+      go false e = getD-set-other vs a k w 0 (eqb-false k a e) ∙ pinValues-at bs s v n k h
 
 -- a gate's function of no pins
 pub function-none : (g : Gate) (vs : List ℕ) → unitOf g ≡ functionOf g (drop (length vs) vs)

@@ -1,34 +1,10 @@
 -- Laws of the values of a line.
-use mathlib.Core.Bool.{false, false≢true, true}
-use mathlib.Core.Path.{_≡_, refl, sym}
+use mathlib.Core.Bool.{false, false≢true, not, true, true≢false}
+use mathlib.Core.Path.{_≡_, refl}
 use Prim.Native.Nat.{_<_, _≤_, suc, zero, ℕ}
 use native.Mathlib.Omega.{arith}
+use lib.Dec.{eqb}
 use Rattle.circuit.specs.Value.{and₂, differ, isUnknown, neg, or₂, stuckOr, xor₂}
-
--- a value is known where it is 0 or 1, unknown from 2 on
-pub known-value : (v : ℕ) → isUnknown v ≡ false → v < 2
-known-value zero e = omega arith
-known-value (suc zero) e = omega arith
-known-value (suc (suc v)) e = absurd (false≢true (sym e))
-
-pub unknown-value : (v : ℕ) → isUnknown v ≡ true → 2 ≤ v
-unknown-value zero e = absurd (false≢true e)
-unknown-value (suc zero) e = absurd (false≢true e)
-unknown-value (suc (suc v)) e = omega arith
-
--- two values differ where both are known and they are not the same
-pub record Differing (v w : ℕ) : Type 0 where
-  pub left-known : v < 2
-  pub right-known : w < 2
-  pub apart : v ≡ w → ⊥
-
-pub differing : (v w : ℕ) → differ v w ≡ true → Differing v w
-differing zero zero e = absurd (false≢true e)
-differing zero (suc zero) e = record { left-known = omega arith; right-known = omega arith; apart = λ q. omega arith }
-differing zero (suc (suc w)) e = absurd (false≢true e)
-differing (suc zero) zero e = record { left-known = omega arith; right-known = omega arith; apart = λ q. omega arith }
-differing (suc zero) (suc w) e = absurd (false≢true e)
-differing (suc (suc v)) w e = absurd (false≢true e)
 
 pub stuck-known : (s v : ℕ) → s < 2 → stuckOr s v ≡ s
 stuck-known zero v h = refl
@@ -72,3 +48,60 @@ pub xor-unknown : (v w : ℕ) → 2 ≤ v → xor₂ v w ≡ 2
 xor-unknown zero w h = absurd (omega arith)
 xor-unknown (suc zero) w h = absurd (omega arith)
 xor-unknown (suc (suc v)) w h = refl
+
+-- values differ where both are known and not equal
+pub differ-known : (v w : ℕ) → v < 2 → w < 2 → not (eqb v w) ≡ differ v w
+differ-known zero zero h g = refl
+differ-known zero (suc zero) h g = refl
+differ-known zero (suc (suc w)) h g = absurd (omega arith)
+differ-known (suc zero) zero h g = refl
+differ-known (suc zero) (suc zero) h g = refl
+differ-known (suc zero) (suc (suc w)) h g = absurd (omega arith)
+differ-known (suc (suc v)) w h g = absurd (omega arith)
+
+pub differ-unknown-first : (v w : ℕ) → 2 ≤ v → differ v w ≡ false
+differ-unknown-first zero w h = absurd (omega arith)
+differ-unknown-first (suc zero) w h = absurd (omega arith)
+differ-unknown-first (suc (suc v)) w h = refl
+
+pub differ-unknown : (v w : ℕ) → 2 ≤ w → differ v w ≡ false
+differ-unknown v zero h = absurd (omega arith)
+differ-unknown v (suc zero) h = absurd (omega arith)
+differ-unknown zero (suc (suc w)) h = refl
+differ-unknown (suc zero) (suc (suc w)) h = refl
+differ-unknown (suc (suc v)) (suc (suc w)) h = refl
+
+pub unknown-high : (v : ℕ) → 2 ≤ v → isUnknown v ≡ true
+unknown-high zero h = absurd (omega arith)
+unknown-high (suc zero) h = absurd (omega arith)
+unknown-high (suc (suc v)) h = refl
+
+pub known-low : (v : ℕ) → v < 2 → isUnknown v ≡ false
+known-low zero h = refl
+known-low (suc zero) h = refl
+known-low (suc (suc v)) h = absurd (omega arith)
+
+-- a value is known where it is 0 or 1, unknown from 2 on
+pub known-is : (v : ℕ) → isUnknown v ≡ false → v < 2
+known-is zero e = omega arith
+known-is (suc zero) e = omega arith
+known-is (suc (suc v)) e = absurd (true≢false e)
+
+pub unknown-is : (v : ℕ) → isUnknown v ≡ true → 2 ≤ v
+unknown-is zero e = absurd (false≢true e)
+unknown-is (suc zero) e = absurd (false≢true e)
+unknown-is (suc (suc v)) e = omega arith
+
+-- two values differ where both are known and they are not the same
+pub record Differing (v w : ℕ) : Type 0 where
+  pub left-known : v < 2
+  pub right-known : w < 2
+  pub apart : v ≡ w → ⊥
+
+pub differing : (v w : ℕ) → differ v w ≡ true → Differing v w
+differing zero zero e = absurd (false≢true e)
+differing zero (suc zero) e = record { left-known = omega arith; right-known = omega arith; apart = λ q. omega arith }
+differing zero (suc (suc w)) e = absurd (false≢true e)
+differing (suc zero) zero e = record { left-known = omega arith; right-known = omega arith; apart = λ q. omega arith }
+differing (suc zero) (suc w) e = absurd (false≢true e)
+differing (suc (suc v)) w e = absurd (false≢true e)

@@ -1,7 +1,7 @@
 // Loads and stores that are total: past the end a load gives 0 and a store does nothing,
 // so that no caller has to show that its index is within the slice.
 ghost use mathlib.Core.Path.{_≡_};
-ghost use lib.ListN.{set};
+ghost use lib.ListN.{drop, length, replicate, set};
 ghost use Rattle.circuit.specs.Lists.{at};
 ghost use Rattle.circuit.specs.Netlist.{u16At};
 
@@ -28,5 +28,26 @@ pub fn store(bytes: &mut [u8], place: usize, value: u8)
 {
     if place < bytes.len() {
         bytes[place] = value;
+    }
+}
+
+// What stands from a place on: nothing where the slice ends before it.
+pub fn tail(bytes: &[u8], place: usize) -> &[u8]
+    ensures { λ r. ⌜ now r ≡ drop place (now (bytes .entry)) ⌝ }
+{
+    if bytes.len() < place {
+        return &bytes[bytes.len()..];
+    }
+    &bytes[place..]
+}
+
+// Puts a value into every place.
+pub fn fill(bytes: &mut [u8], value: u8)
+    ensures { λ _. ⌜ now (bytes .exit) ≡ replicate (length (now (bytes .entry))) value ⌝ }
+{
+    let mut place: usize = 0;
+    while place < bytes.len() {
+        bytes[place] = value;
+        place += 1;
     }
 }

@@ -1,7 +1,9 @@
 // One clock step of a circuit, good or faulty.
 ghost use mathlib.Core.Path.{_≡_};
 ghost use Prim.Native.Nat.{_<_};
-ghost use lib.ListN.{length};
+ghost use lib.Dec.{eqb};
+ghost use lib.ListN.{length, set};
+ghost use mathlib.Core.Bool.{cond};
 ghost use Rattle.circuit.specs.Lists.{at, every};
 ghost use Rattle.circuit.specs.Netlist.{kindOf, netOf, pinCount, reading, sound, sourceOf};
 ghost use Rattle.circuit.specs.Kind.{gate};
@@ -45,9 +47,35 @@ fn pin_value(netlist: &[u8], circuit: Circuit, seen: &[u8], node: u16, pin: u16)
     stuck_or(stuck_pin(circuit, node, pin), value)
 }
 
-// What a node makes of its pins' values, which are joined from the last pin on.
-fn gate_value(netlist: &[u8], circuit: Circuit, seen: &[u8], node: u16) -> u8
-    ensures { λ r. ⌜ r ≡ gate (kindOf (now (netlist .entry)) node) (pinValues (netOf (now (netlist .entry))) (linesIn circuit) (at (now (seen .entry))) node) ⌝ }
+// What a pin reads, where the assumed pin is taken to read the assumption.
+fn assumed_value(
+    netlist: &[u8],
+    circuit: Circuit,
+    seen: &[u8],
+    node: u16,
+    pin: u16,
+    assumed: u16,
+    assumption: u8,
+) -> u8
+    ensures { λ r. ⌜ r ≡ cond (eqb pin assumed) assumption (stuckOr (linesIn circuit .pin node pin) (at (now (seen .entry)) (sourceOf (now (netlist .entry)) node pin))) ⌝ }
+{
+    if pin == assumed {
+        return assumption;
+    }
+    pin_value(netlist, circuit, seen, node, pin)
+}
+
+// What a node makes of its pins' values, where the assumed pin is taken to read the assumption.
+// The values are joined from the last pin on.
+pub fn gate_assuming(
+    netlist: &[u8],
+    circuit: Circuit,
+    seen: &[u8],
+    node: u16,
+    assumed: u16,
+    assumption: u8,
+) -> u8
+    ensures { λ r. ⌜ r ≡ gate (kindOf (now (netlist .entry)) node) (set (pinValues (netOf (now (netlist .entry))) (linesIn circuit) (at (now (seen .entry))) node) assumed assumption) ⌝ }
 {
     let rule = rule_of(kind_of(netlist, node));
     let gate = rule.gate;
@@ -55,9 +83,17 @@ fn gate_value(netlist: &[u8], circuit: Circuit, seen: &[u8], node: u16) -> u8
     let mut pin = length_of(netlist, node);
     while 0 < pin {
         pin -= 1;
-        value = join_of(gate, pin_value(netlist, circuit, seen, node, pin), value);
+        let read = assumed_value(netlist, circuit, seen, node, pin, assumed, assumption);
+        value = join_of(gate, read, value);
     }
     inverted_if(rule.inverted, value)
+}
+
+// What a node makes of its pins' values. No node has a pin of the number 65,535, so nothing is assumed.
+pub fn gate_value(netlist: &[u8], circuit: Circuit, seen: &[u8], node: u16) -> u8
+    ensures { λ r. ⌜ r ≡ gate (kindOf (now (netlist .entry)) node) (pinValues (netOf (now (netlist .entry))) (linesIn circuit) (at (now (seen .entry))) node) ⌝ }
+{
+    gate_assuming(netlist, circuit, seen, node, 65535, 0)
 }
 
 // The seen value of a node, from its own place and its sources' places.

@@ -2,8 +2,8 @@
 ghost use mathlib.Core.Path.{_≡_};
 ghost use mathlib.Core.Bool.{_||_};
 ghost use lib.Dec.{eqb};
-ghost use Rattle.circuit.specs.Kind.{rule, ruleOf, unitOf, joinOf, invertedIf, isGiven};
-ghost use Rattle.circuit.specs.Value.{neg, and₂, or₂, xor₂};
+ghost use Rattle.circuit.specs.Kind.{rule, ruleOf, unitOf, joinOf, controlling, invertedIf, isGiven};
+ghost use Rattle.circuit.specs.Value.{differ, neg, and₂, or₂, xor₂};
 
 pub const INPUT: u8 = 0;
 
@@ -72,6 +72,13 @@ pub fn negation(v: u8) -> u8
     }
 }
 
+// Both values are known, and not the same.
+pub fn values_differ(v: u8, w: u8) -> bool
+    ensures { λ r. ⌜ r ≡ differ v w ⌝ }
+{
+    v < UNKNOWN && (w < UNKNOWN && v != w)
+}
+
 fn and_of(v: u8, w: u8) -> u8
     ensures { λ r. ⌜ r ≡ and₂ v w ⌝ }
 {
@@ -121,6 +128,18 @@ pub fn join_of(gate: Gate, v: u8, w: u8) -> u8
         Gate::And => and_of(v, w),
         Gate::Or => or_of(v, w),
         Gate::Xor => xor_of(v, w),
+    }
+}
+
+// The pin value that settles an AND or an OR by itself.
+pub fn controlling_value(gate: Gate) -> u8
+    ensures { λ r. ⌜ r ≡ controlling gate ⌝ }
+{
+    match gate {
+        Gate::Wire => 0,
+        Gate::And => 0,
+        Gate::Or => 1,
+        Gate::Xor => 0,
     }
 }
 

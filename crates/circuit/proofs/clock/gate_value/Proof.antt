@@ -1,112 +1,35 @@
-use lib.ListN.{drop, length}
-use Rattle.circuit.specs.Netlist.{netOf, lengthOf}
+use Prim.Native.Nat.{ℕ, _*_, _+_, _≤_}
+use native.Mathlib.Omega.{arith}
+use mathlib.Core.Path.{_∙_, ap}
+use mathlib.Core.List.{List}
+use lib.Seq.{set-out}
+use lib.ListN.{length}
+use denote.Ref.{now}
+use Rattle.circuit.specs.Netlist.{kindOf, netOf}
 use Rattle.circuit.specs.Lists.{at}
-use Rattle.circuit.specs.Kind.{functionOf, joinOf, gate, invertedIf}
+use Rattle.circuit.specs.Kind.{gate}
 use Rattle.circuit.specs.Fault.{linesIn}
 use Rattle.circuit.specs.Clock.{pinValues}
-use Rattle.circuit.proofs.PinLaws.{length-pinValues, pinValues-at, function-none, function-more}
-use denote.Ref.{now}
-use Prim.Native.Nat.{ℕ, _≤_, _-_, _<_, _+_, suc}
-use mathlib.Core.Path.{_≡_, refl, sym, _∙_, ap}
-use native.Mathlib.Omega.{arith}
+use Rattle.circuit.proofs.PinLaws.{length-pinValues}
 use borrow.Author.Needs.{needs}
 use Rattle.circuit.proofs.clock.gate_value.Statement.{statement}
 use Rattle.circuit.proofs.clock.gate_value.Tie as tie
 use Rattle.circuit.proofs.clock.gate_value.Reads as reads
 use Rattle.circuit.proofs.clock.gate_value.Lts as lts
-use Rattle.circuit.proofs.clock.pin_value.Reads as pin-value-reads
-use Rattle.circuit.proofs.kind.inverted_if.Reads as inverted-if-reads
-use Rattle.circuit.proofs.kind.join_of.Reads as join-of-reads
-use Rattle.circuit.proofs.kind.rule_of.Reads as rule-of-reads
-use Rattle.circuit.proofs.kind.unit_of.Reads as unit-of-reads
-use Rattle.circuit.proofs.netlist.kind_of.Reads as kind-of-reads
-use Rattle.circuit.proofs.netlist.length_of.Reads as length-of-reads
+use Rattle.circuit.proofs.clock.gate_assuming.Reads as gate-assuming-reads
 
-abbrev Inv-loop : tie.InvT-loop
-Inv-loop netlist circuit seen node rule gate value₀ pin₀ value pin = (pin ≤ lengthOf netlist node) × (value ≡ functionOf gate (drop pin (pinValues (netOf netlist) (linesIn circuit) (at seen) node)))
+-- src/clock.rt:89:5
+gate-assuming-requires : tie.Need-gate-assuming-requires
+gate-assuming-requires c κs = search needs
 
-abbrev μ-loop : tie.MeasureT-loop
-μ-loop netlist circuit seen node rule gate value₀ pin₀ value pin = pin
-
--- src/clock.rt:51:24
-kind-of-requires : tie.Need-kind-of-requires Inv-loop μ-loop
-kind-of-requires c κs = search needs
-
--- src/clock.rt:51:9
-rule-of-requires : tie.Need-rule-of-requires Inv-loop μ-loop
-rule-of-requires c κs = search needs
-
--- src/clock.rt:53:9
-unit-of-requires : tie.Need-unit-of-requires Inv-loop μ-loop
-unit-of-requires c κs = search needs
-
--- src/clock.rt:54:9
-length-of-requires : tie.Need-length-of-requires Inv-loop μ-loop
-length-of-requires c κs = search needs
-
--- src/clock.rt:55:5
-loop-holds : tie.Need-loop-holds Inv-loop μ-loop
-loop-holds c = let a = c .before .before .before .before .before .before .args in
-    let vs = pinValues (netOf (now (a .netlist))) (linesIn (a .circuit)) (at (now (a .seen))) (a .node) in
-    let l = length-pinValues (now (a .netlist)) (linesIn (a .circuit)) (at (now (a .seen))) (a .node) in
-    (omega (arith, c .length-of .ensures), rw (c .before .unit-of .ensures, c .length-of .ensures, ← l) (function-none (c .before .before .rule-of .result .gate) vs))
-
--- src/clock.rt:56:9
-sub-pin : tie.Need-sub-pin Inv-loop μ-loop
-sub-pin c = search needs
-
--- src/clock.rt:57:31
-pin-value-requires : tie.Need-pin-value-requires Inv-loop μ-loop
-pin-value-requires c κs = search needs
-
--- src/clock.rt:57:9
-join-of-requires : tie.Need-join-of-requires Inv-loop μ-loop
-join-of-requires c κs = search needs
-
--- src/clock.rt:55:5
-loop-less : tie.Need-loop-less Inv-loop μ-loop
-loop-less c = omega arith
-
--- src/clock.rt:55:5
-loop-again : tie.Need-loop-again Inv-loop μ-loop
-loop-again c = let a = c .before .before .before .before .before .before .before .before .before .before .args in
+-- src/clock.rt:86:1
+returns : tie.Need-returns
+returns c = let a = c .before .before .before .args in
     let s = now (a .netlist) in
-    let g = c .before .before .before .before .before .before .rule-of .result .gate in
     let vs = pinValues (netOf s) (linesIn (a .circuit)) (at (now (a .seen))) (a .node) in
-    let l = c .before .before .before .loop in
-    let len = length-pinValues s (linesIn (a .circuit)) (at (now (a .seen))) (a .node) in
-    let h : l .pin - 1 < lengthOf s (a .node) = omega (arith, l .inv .0, c .before .before .loop-test .taken) in (
-      omega (arith, h),
-      rw (c .join-of .ensures, c .before .pin-value .ensures, ← pinValues-at s (linesIn (a .circuit)) (at (now (a .seen))) (a .node) (l .pin - 1) h, l .inv .1)
-          (function-more g vs (l .pin) (c .before .before .loop-test .taken) (omega (arith, len, l .inv .0))),
-    )
-
--- src/clock.rt:59:5
-inverted-if-requires : tie.Need-inverted-if-requires Inv-loop μ-loop
-inverted-if-requires c κs = search needs
-
--- src/clock.rt:48:1
-returns : tie.Need-returns Inv-loop μ-loop
-unfolding gate
-returns c = let l = c .before .before .loop in
-    let z : l .pin ≡ 0 = omega arith in
-    rw (c .inverted-if .ensures, l .inv .1, z, c .before .before .before .before .before .rule-of .ensures, c .before .before .before .before .before .before .kind-of .ensures)
+    let k = c .before .before .shared-slice-known .given in
+    let h : length vs ≤ 65535 = omega (arith, length-pinValues s (linesIn (a .circuit)) (at (now (a .seen))) (a .node), k (7 + 5 * a .node), k (7 + 5 * a .node + 1)) in
+    c .gate-assuming .ensures ∙ ap (λ (us : List ℕ). gate (kindOf s (a .node)) us) (set-out vs 65535 0 h)
 
 pub gate-value-spec : {M : Type 1} → statement M
-gate-value-spec =
-    tie.close
-    (tie.spec
-    Inv-loop
-    μ-loop
-    kind-of-requires
-    rule-of-requires
-    unit-of-requires
-    length-of-requires
-    loop-holds
-    sub-pin
-    pin-value-requires
-    join-of-requires
-    loop-less
-    loop-again
-    inverted-if-requires
-    returns)
+gate-value-spec = tie.close (tie.spec gate-assuming-requires returns)

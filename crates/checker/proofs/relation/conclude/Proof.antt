@@ -1,0 +1,116 @@
+use Prim.Native.Nat.{ℕ}
+use mathlib.Core.Path.{_≡_, _∙_, ap}
+use lib.ListN.{drop}
+use denote.Ref.{now}
+use Rattle.circuit.specs.Netlist.{netOf}
+use Rattle.circuit.specs.Lists.{at}
+use Rattle.circuit.specs.Fault.{linesIn, linesOf}
+use Rattle.checker.specs.Window.{pinFrame, presentBelow}
+use Rattle.checker.proofs.WindowLaws.{conclude-output, conclude-pin}
+use borrow.Author.Needs.{needs}
+use Rattle.checker.proofs.relation.conclude.Statement.{statement}
+use Rattle.checker.proofs.relation.conclude.Tie as tie
+use Rattle.checker.proofs.relation.conclude.Reads as reads
+use Rattle.checker.proofs.relation.conclude.Lts as lts
+use Rattle.checker.proofs.relation.circuit_in.Reads as circuit-in-reads
+use Rattle.checker.proofs.relation.pin_conclusion.Reads as pin-conclusion-reads
+use Rattle.checker.proofs.relation.pin_frame.Reads as pin-frame-reads
+use Rattle.checker.proofs.relation.pin_source.Reads as pin-source-reads
+use Rattle.checker.proofs.window.place_of.Reads as place-of-reads
+use Rattle.circuit.proofs.byte_at.Reads as byte-at-reads
+use Rattle.circuit.proofs.tail.Reads as tail-reads
+use Rattle.circuit.proofs.gate_value.Reads as gate-value-reads
+use Rattle.circuit.proofs.kind_of.Reads as kind-of-reads
+use Rattle.circuit.proofs.node_count.Reads as node-count-reads
+
+-- src/relation.rt:90:9
+node-count-requires : tie.Need-node-count-requires
+node-count-requires c κs = search needs
+
+-- src/relation.rt:91:29
+kind-of-requires : tie.Need-kind-of-requires
+kind-of-requires c κs = search needs
+
+-- src/relation.rt:91:9
+pin-frame-requires : tie.Need-pin-frame-requires
+pin-frame-requires c κs = search needs
+
+-- src/relation.rt:92:9
+circuit-in-requires : tie.Need-circuit-in-requires
+circuit-in-requires c κs = search needs
+
+-- src/relation.rt:93:39
+place-of-requires : tie.Need-place-of-requires
+place-of-requires c κs = search needs
+
+-- src/relation.rt:93:9
+tail-requires : tie.Need-tail-requires
+tail-requires c κs = search needs
+
+-- src/relation.rt:95:13
+gate-value-requires : tie.Need-gate-value-requires
+gate-value-requires c κs = search needs
+
+-- src/relation.rt:96:9
+returns : tie.Need-returns
+unfolding netOf
+returns c = let a = c .before .before .before .before .before .before .before .before .before .before .args in
+    let s = now (a .netlist) in
+    let hp = c .before .before .before .before .before .pin-frame .ensures ∙ ap (λ (k : ℕ). pinFrame k (a .frame)) (c .before .before .before .before .before .before .kind-of .ensures) in
+    let hv = c .before .before .tail .ensures ∙ ap (λ (k : ℕ). drop k (now (a .known))) (c .before .before .before .place-of .ensures) in
+    rw (c .before .if1 .taken)
+    (conclude-output (netOf s) (presentBelow (a .c) (linesOf (a .fault))) (now (a .known)) (a .node) (a .frame) (c .before .before .before .before .before .pin-frame .result) (c .before .before .before .before .before .before .before .node-count .result) (linesIn (c .before .before .before .before .circuit-in .result)) (now (c .before .before .tail .result)) hp (c .before .before .before .before .before .before .before .node-count .ensures) (c .before .before .before .before .circuit-in .ensures) hv (c .gate-value .result) (c .gate-value .ensures))
+
+-- src/relation.rt:98:42
+place-of-requires-2 : tie.Need-place-of-requires-2
+place-of-requires-2 c κs = search needs
+
+-- src/relation.rt:98:9
+byte-at-requires : tie.Need-byte-at-requires
+byte-at-requires c κs = search needs
+
+-- src/relation.rt:99:44
+sub-pin-source : tie.Need-sub-pin-source
+sub-pin-source c = search needs
+
+-- src/relation.rt:99:9
+pin-source-requires : tie.Need-pin-source-requires
+pin-source-requires c κs = search needs
+
+-- src/relation.rt:100:72
+sub-pin-conclusion : tie.Need-sub-pin-conclusion
+sub-pin-conclusion c = search needs
+
+-- src/relation.rt:100:9
+pin-conclusion-requires : tie.Need-pin-conclusion-requires
+pin-conclusion-requires c κs = search needs
+
+-- src/relation.rt:87:1
+returns-2 : tie.Need-returns-2
+unfolding netOf
+returns-2 c = let a = c .before .before .before .before .before .before .before .before .before .before .before .before .before .args in
+    let s = now (a .netlist) in
+    let hp = c .before .before .before .before .before .before .before .before .pin-frame .ensures ∙ ap (λ (k : ℕ). pinFrame k (a .frame)) (c .before .before .before .before .before .before .before .before .before .kind-of .ensures) in
+    let hv = c .before .before .before .before .before .tail .ensures ∙ ap (λ (k : ℕ). drop k (now (a .known))) (c .before .before .before .before .before .before .place-of .ensures) in
+    let ho = c .before .before .byte-at .ensures ∙ ap (at (now (a .known))) (c .before .before .before .place-of2 .ensures) in
+    conclude-pin (netOf s) (presentBelow (a .c) (linesOf (a .fault))) (now (a .known)) (a .node) (a .frame) (c .before .before .before .before .before .before .before .before .pin-frame .result) (c .before .before .before .before .before .before .before .before .before .before .node-count .result) (linesIn (c .before .before .before .before .before .before .before .circuit-in .result)) (now (c .before .before .before .before .before .tail .result)) hp (c .before .before .before .before .before .before .before .before .before .before .node-count .ensures) (c .before .before .before .before .before .before .before .circuit-in .ensures) hv (a .line) (c .before .pin-source .result) (c .before .before .byte-at .result) (c .pin-conclusion .result) (c .before .before .before .before .if1 .left) (c .before .pin-source .ensures) ho (c .pin-conclusion .ensures)
+
+pub conclude-spec : {M : Type 1} → statement M
+conclude-spec =
+    tie.close
+    (tie.spec
+    node-count-requires
+    kind-of-requires
+    pin-frame-requires
+    circuit-in-requires
+    place-of-requires
+    tail-requires
+    gate-value-requires
+    returns
+    place-of-requires-2
+    byte-at-requires
+    sub-pin-source
+    pin-source-requires
+    sub-pin-conclusion
+    pin-conclusion-requires
+    returns-2)

@@ -1,0 +1,2 @@
+// The effect trace.
+ghost use mathlib.Core.Path.{_≡_};
