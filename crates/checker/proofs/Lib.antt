@@ -1,2 +1,9 @@
--- Laws of the definitions, which the proofs of this crate and of the crates above cite.
+-- Laws of the definitions, which the proofs of this crate and of the crates above cite; and THE THEOREM.
 pub mod WindowLaws
+pub mod Agreement
+pub mod VerdictLaws
+pub mod HybridRuns
+pub mod Model
+pub mod Conclusions
+pub mod TraceSoundness
+pub mod Theorem

@@ -1,5 +1,5 @@
 -- What a conjunction or a disjunction says of its parts.
-use mathlib.Core.Bool.{Bool, _&&_, _||_, false, false≢true, true, true≢false}
+use mathlib.Core.Bool.{Bool, _&&_, _||_, false, false≢true, not, true, true≢false}
 use mathlib.Core.Path.{_≡_, refl}
 
 pub and-left : (a b : Bool) → (a && b) ≡ true → a ≡ true
@@ -22,6 +22,7 @@ or-right false b e h = e
 pub or-false : (a b : Bool) → a ≡ false → (a || b) ≡ b
 or-false a b e = rw e
 
-pub or-true : (a : Bool) → (a || true) ≡ true
-or-true true = refl
-or-true false = refl
+-- what is asked only where a holds
+pub implied : (a b : Bool) → (not a || b) ≡ true → a ≡ true → b ≡ true
+implied true b e q = e
+implied false b e q = absurd (false≢true q)

@@ -8,11 +8,11 @@ use native.Mathlib.Decide.{ℕ-discrete}
 use native.Mathlib.Nat.{le-of-suc-le-suc, not-suc-le-zero}
 use native.Mathlib.Omega.{arith}
 use lib.Dec.{eqb}
-use lib.ListN.{length}
+use lib.ListN.{getD, length, set}
 use Rattle.circuit.proofs.ListLaws.{Below, bcons, bnil}
 use Rattle.circuit.proofs.ValueLaws.{and-zero, or-one}
 use Rattle.circuit.specs.Kind.{functionOf, gate, invertedIf, joinOf, ruleOf, unitOf}
-use Rattle.circuit.specs.Lists.{at}
+use Rattle.circuit.specs.Lists.{at, indexed}
 use Rattle.circuit.specs.Value.{and₂, neg, or₂, stuckOr, xor₂}
 use Rattle.circuit.specs.declared.kind.Gate.{Gate}
 use Rattle.circuit.specs.declared.kind.Gate.the-variants.{And, Or, Wire, Xor}
@@ -43,10 +43,15 @@ pub xnor-pins : Pins 10 2 2
 unfolding ruleOf
 xnor-pins = (refl, refl)
 
--- An output and a buffer hand on what their pin reads; a NOT negates it.
+-- An output, a flip-flop and a buffer hand on what their pin reads; a NOT negates it.
 pub output-value : (v : ℕ) → gate 1 (v ∷ []) ≡ v
 unfolding gate ruleOf
 output-value v = refl
+
+pub flip-flop-value : (vs : List ℕ) → gate 2 vs ≡ at vs 0
+unfolding gate ruleOf
+flip-flop-value [] = refl
+flip-flop-value (v ∷ vs) = refl
 
 pub buffer-value : (v : ℕ) → gate 3 (v ∷ []) ≡ v
 unfolding gate ruleOf
@@ -290,6 +295,27 @@ pub stuck-mono : (s v w : ℕ) → Refines v w → Refines (stuckOr s v) (stuckO
 stuck-mono zero v w h = λ _. refl
 stuck-mono (suc zero) v w h = λ _. refl
 stuck-mono (suc (suc s)) v w h = h
+
+-- a stuck value is what a stuck line is; a line of which both the stuck value and the own value refine to v
+pub stuck-refines : (s v : ℕ) → Refines s (stuckOr s v)
+stuck-refines zero v = λ _. refl
+stuck-refines (suc zero) v = λ _. refl
+stuck-refines (suc (suc s)) v = λ l. absurd (omega arith)
+
+pub stuckOr-refines : (s x v : ℕ) → Refines s v → Refines x v → Refines (stuckOr s x) v
+stuckOr-refines zero x v h g = h
+stuckOr-refines (suc zero) x v h g = h
+stuckOr-refines (suc (suc s)) x v h g = g
+
+-- lists made from the same sources, and a list with one element set
+pub indexed-refines : {b : ℕ} {xs : List ℕ} → Below b xs → (f g : ℕ → ℕ → ℕ) (k : ℕ) → ((k x : ℕ) → x < b → Refines (f k x) (g k x)) → RefinesAll (indexed f k xs) (indexed g k xs)
+indexed-refines bnil f g k h = rnil
+indexed-refines (bcons {x} p r) f g k h = rcons (h k x p) (indexed-refines r f g (suc k) h)
+
+pub set-refines : {vs ws : List ℕ} → RefinesAll vs ws → (k w : ℕ) → Refines w (getD ws k w) → RefinesAll (set vs k w) ws
+set-refines rnil k w h = rnil
+set-refines (rcons g t) zero w h = rcons h t
+set-refines (rcons g t) (suc k) w h = rcons g (set-refines t k w h)
 
 join-mono : (g : Gate) (v w a b : ℕ) → Refines v w → Refines a b → Refines (joinOf g v a) (joinOf g w b)
 join-mono Wire v w a b h l = h

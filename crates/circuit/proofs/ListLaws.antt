@@ -1,5 +1,5 @@
 -- Laws of lists made by rising index, and of tests of every index.
-use mathlib.Core.Bool.{Bool, _&&_, false, true}
+use mathlib.Core.Bool.{Bool, _&&_, _||_, false, false≢true, true}
 use mathlib.Core.List.{List, [], _++_, _∷_, append-nil}
 use mathlib.Core.Logic.{⊎-elim}
 use mathlib.Core.Path.{_∙_, _≡_, ap, refl, subst, sym}
@@ -10,7 +10,7 @@ use native.Mathlib.Numerals.{add-one}
 use native.Mathlib.Omega.{arith}
 use lib.ListN.{List·getD-append, List·getD-eq-default, drop, drop-of-length-le, getD, length, length-append, length-take, replicate, set, take}
 use lib.Seq.{append-snoc, drop-cons, getD-at, getD-take, set-at}
-use Rattle.circuit.proofs.BoolLaws.{and-left, and-right, or-true}
+use Rattle.circuit.proofs.BoolLaws.{and-left, and-right}
 use Rattle.circuit.specs.Lists.{any, at, build, every, indexed, table}
 
 -- one turn of a loop that tests by rising index
@@ -44,13 +44,6 @@ every-fails f n i h e = go (every f n) refl
 pub every-done : (f : ℕ → Bool) (i n : ℕ) → every f i ≡ true → i ≤ n → n ≤ i → true ≡ every f n
 every-done f i n e h g = let q : i ≡ n = omega arith in rw (← q) (sym e)
 
--- one number that passes is enough
-pub any-at : (f : ℕ → Bool) (n i : ℕ) → i < n → f i ≡ true → any f n ≡ true
-unfolding any
-any-at f zero i h e = absurd (not-suc-le-zero h)
-any-at f (suc n) i h e =
-    ⊎-elim (λ q. rw (← q, e) (or-true (any f i))) (λ l. rw (any-at f n i l e)) (eq-or-lt-of-le (le-of-suc-le-suc h))
-
 -- one turn of a loop that looks for a number that passes
 pub any-more : (f : ℕ → Bool) (n : ℕ) → any f n ≡ false → f n ≡ false → any f (suc n) ≡ false
 unfolding any
@@ -71,6 +64,33 @@ pub zeros-at : (n m : ℕ) → at (replicate n 0) m ≡ 0
 zeros-at zero m = refl
 zeros-at (suc n) zero = refl
 zeros-at (suc n) (suc m) = zeros-at n m
+
+-- where some number below n passes, here is one
+pub any-found : (f : ℕ → Bool) (n : ℕ) → any f n ≡ true → (i : ℕ) × (i < n) × (f i ≡ true)
+unfolding any
+any-found f zero e = absurd (false≢true e)
+any-found f (suc n) e = go (any f n) refl e (λ q. any-found f n q)
+  where
+    go : (b : Bool) → any f n ≡ b → (b || f n) ≡ true → (any f n ≡ true → (i : ℕ) × (i < n) × (f i ≡ true)) → (i : ℕ) × (i < suc n) × (f i ≡ true)
+    go true q e r = let p = r q in (p .0, omega (arith, p .1), p .2)
+    go false q e r = (n, omega arith, e)
+
+-- and one that passes is enough
+pub any-by : (f : ℕ → Bool) (n i : ℕ) → i < n → f i ≡ true → any f n ≡ true
+unfolding any
+any-by f zero i h e = absurd (not-suc-le-zero h)
+any-by f (suc n) i h e =
+    ⊎-elim (λ q. or-true (any f n) (f n) (subst (λ (k : ℕ). f k ≡ true) q e)) (λ l. rw (any-by f n i l e)) (eq-or-lt-of-le (le-of-suc-le-suc h))
+  where
+    or-true : (a b : Bool) → b ≡ true → (a || b) ≡ true
+    or-true true b q = refl
+    or-true false b q = q
+
+-- tests that agree below n
+pub any-same : (f g : ℕ → Bool) (n : ℕ) → ((i : ℕ) → i < n → f i ≡ g i) → any f n ≡ any g n
+unfolding any
+any-same f g zero h = refl
+any-same f g (suc n) h = let r = any-same f g n (λ i l. h i (omega arith)) in let q = h n (omega arith) in λ i. r i || q i
 
 pub length-build : (f : List ℕ → ℕ → ℕ) (n : ℕ) → length (build f n) ≡ n
 unfolding build
@@ -149,3 +169,11 @@ indexed-at f i (x ∷ xs) (suc k) d h = indexed-at f (suc i) xs k d (le-of-suc-l
 pub indexed-agree : {b : ℕ} {xs : List ℕ} → Below b xs → (f g : ℕ → ℕ → ℕ) (k : ℕ) → ((k x : ℕ) → x < b → f k x ≡ g k x) → indexed f k xs ≡ indexed g k xs
 indexed-agree bnil f g k h = refl
 indexed-agree (bcons {x} {xs} p r) f g k h = λ i. h k x p i ∷ indexed-agree r f g (suc k) h i
+
+-- What stands at j once a is stored at i: a where j is i, else what stood there before. A place past the end holds d.
+pub set-either : (P : ℕ → Type 0) (l : List ℕ) (i j a d : ℕ) → (j ≡ i → P a) → P (getD l j d) → P (getD (set l i a) j d)
+set-either P [] i j a d f g = g
+set-either P (x ∷ xs) zero zero a d f g = f refl
+set-either P (x ∷ xs) zero (suc j) a d f g = g
+set-either P (x ∷ xs) (suc i) zero a d f g = g
+set-either P (x ∷ xs) (suc i) (suc j) a d f g = set-either P xs i j a d (λ e. f (ap suc e)) g

@@ -1,5 +1,5 @@
 -- Laws of the values of a line.
-use mathlib.Core.Bool.{false, not, true}
+use mathlib.Core.Bool.{false, false≢true, not, true, true≢false}
 use mathlib.Core.Path.{_≡_, refl}
 use Prim.Native.Nat.{_<_, _≤_, suc, zero, ℕ}
 use native.Mathlib.Omega.{arith}
@@ -80,3 +80,28 @@ pub known-low : (v : ℕ) → v < 2 → isUnknown v ≡ false
 known-low zero h = refl
 known-low (suc zero) h = refl
 known-low (suc (suc v)) h = absurd (omega arith)
+
+-- a value is known where it is 0 or 1, unknown from 2 on
+pub known-is : (v : ℕ) → isUnknown v ≡ false → v < 2
+known-is zero e = omega arith
+known-is (suc zero) e = omega arith
+known-is (suc (suc v)) e = absurd (true≢false e)
+
+pub unknown-is : (v : ℕ) → isUnknown v ≡ true → 2 ≤ v
+unknown-is zero e = absurd (false≢true e)
+unknown-is (suc zero) e = absurd (false≢true e)
+unknown-is (suc (suc v)) e = omega arith
+
+-- two values differ where both are known and they are not the same
+pub record Differing (v w : ℕ) : Type 0 where
+  pub left-known : v < 2
+  pub right-known : w < 2
+  pub apart : v ≡ w → ⊥
+
+pub differing : (v w : ℕ) → differ v w ≡ true → Differing v w
+differing zero zero e = absurd (false≢true e)
+differing zero (suc zero) e = record { left-known = omega arith; right-known = omega arith; apart = λ q. omega arith }
+differing zero (suc (suc w)) e = absurd (false≢true e)
+differing (suc zero) zero e = record { left-known = omega arith; right-known = omega arith; apart = λ q. omega arith }
+differing (suc zero) (suc w) e = absurd (false≢true e)
+differing (suc (suc v)) w e = absurd (false≢true e)

@@ -12,7 +12,7 @@ use Rattle.circuit.specs.Fault.{linesOf}
 use Rattle.checker.specs.Window.{presentBelow, knownIn}
 use Rattle.checker.specs.Checker.{givesStep}
 use Rattle.circuit.proofs.NetlistLaws.{pins-length}
-use Rattle.circuit.proofs.ListLaws.{any-at, any-more, any-none}
+use Rattle.circuit.proofs.ListLaws.{any-by, any-more, any-none}
 use Rattle.checker.proofs.follow.some_line_gives.Statement.{statement}
 use Rattle.checker.proofs.follow.some_line_gives.Tie as tie
 use Rattle.checker.proofs.follow.some_line_gives.Reads as reads
@@ -37,7 +37,7 @@ returns c = let a = c .before .before .before .before .args in
     let g = givesStep net (presentBelow (a .c) (linesOf (a .fault))) 0 (knownIn (now (a .known)) (net .size)) (a .step) in
     let len = pins-length (now (a .netlist)) (a .step .via) in
     let h : 0 < suc (length (net .pins (a .step .via))) = omega arith in
-    sym (any-at g _ 0 h (sym (c .before .line-gives .ensures) ∙ c .if1 .taken))
+    sym (any-by g _ 0 h (sym (c .before .line-gives .ensures) ∙ c .if1 .taken))
 
 -- src/follow.rt:78:9
 length-of-requires : tie.Need-length-of-requires Inv-loop μ-loop
@@ -67,7 +67,7 @@ returns-2 c = let a = c .before .before .before .before .before .before .before 
     let len = pins-length (now (a .netlist)) (a .step .via) in
     let i = c .before .before .before .loop .pin in
     let h : i + 1 < suc (length (net .pins (a .step .via))) = omega (arith, len, c .before .before .before .before .length-of .ensures, c .before .before .loop-test .taken) in
-    sym (any-at g _ (i + 1) h (sym (c .before .line-gives2 .ensures) ∙ c .if2 .taken))
+    sym (any-by g _ (i + 1) h (sym (c .before .line-gives2 .ensures) ∙ c .if2 .taken))
 
 -- src/follow.rt:84:9
 add-pin : tie.Need-add-pin Inv-loop μ-loop
