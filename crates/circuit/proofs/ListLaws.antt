@@ -121,3 +121,15 @@ indexed-at f i (x ∷ xs) (suc k) d h = indexed-at f (suc i) xs k d (le-of-suc-l
 pub indexed-agree : {b : ℕ} {xs : List ℕ} → Below b xs → (f g : ℕ → ℕ → ℕ) (k : ℕ) → ((k x : ℕ) → x < b → f k x ≡ g k x) → indexed f k xs ≡ indexed g k xs
 indexed-agree bnil f g k h = refl
 indexed-agree (bcons {x} {xs} p r) f g k h = λ i. h k x p i ∷ indexed-agree r f g (suc k) h i
+
+-- what holds of every list of one element, or of two, holds of each list of that length
+pub list-of-one : (P : List ℕ → Type 0) → ((a : ℕ) → P (a ∷ [])) → (l : List ℕ) → length l ≡ 1 → P l
+list-of-one P h [] e = absurd (omega arith)
+list-of-one P h (a ∷ []) e = h a
+list-of-one P h (a ∷ b ∷ l) e = absurd (omega arith)
+
+pub list-of-two : (P : List ℕ → Type 0) → ((a b : ℕ) → P (a ∷ b ∷ [])) → (l : List ℕ) → length l ≡ 2 → P l
+list-of-two P h [] e = absurd (omega arith)
+list-of-two P h (a ∷ []) e = absurd (omega arith)
+list-of-two P h (a ∷ b ∷ []) e = h a b
+list-of-two P h (a ∷ b ∷ c ∷ l) e = absurd (omega arith)

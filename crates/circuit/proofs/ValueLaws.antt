@@ -1,8 +1,9 @@
 -- Laws of the values of a line.
+use mathlib.Core.Bool.{false, false≢true, true, true≢false}
 use mathlib.Core.Path.{_≡_, refl}
 use Prim.Native.Nat.{_<_, _≤_, suc, zero, ℕ}
 use native.Mathlib.Omega.{arith}
-use Rattle.circuit.specs.Value.{and₂, neg, or₂, stuckOr, xor₂}
+use Rattle.circuit.specs.Value.{and₂, differ, isUnknown, neg, or₂, stuckOr, xor₂}
 
 pub stuck-known : (s v : ℕ) → s < 2 → stuckOr s v ≡ s
 stuck-known zero v h = refl
@@ -46,3 +47,56 @@ pub xor-unknown : (v w : ℕ) → 2 ≤ v → xor₂ v w ≡ 2
 xor-unknown zero w h = absurd (omega arith)
 xor-unknown (suc zero) w h = absurd (omega arith)
 xor-unknown (suc (suc v)) w h = refl
+
+-- a value is unknown from 2 on
+pub unknown-from : (v : ℕ) → 2 ≤ v → isUnknown v ≡ true
+unknown-from zero h = absurd (omega arith)
+unknown-from (suc zero) h = absurd (omega arith)
+unknown-from (suc (suc v)) h = refl
+
+pub known-below : (v : ℕ) → v < 2 → isUnknown v ≡ false
+known-below zero h = refl
+known-below (suc zero) h = refl
+known-below (suc (suc v)) h = absurd (omega arith)
+
+pub unknown-is : (v : ℕ) → isUnknown v ≡ true → 2 ≤ v
+unknown-is zero e = absurd (false≢true e)
+unknown-is (suc zero) e = absurd (false≢true e)
+unknown-is (suc (suc v)) e = omega arith
+
+pub known-is : (v : ℕ) → isUnknown v ≡ false → v < 2
+known-is zero e = omega arith
+known-is (suc zero) e = omega arith
+known-is (suc (suc v)) e = absurd (true≢false e)
+
+-- nothing differs from an unknown value, nor from itself; a known value differs from its opposite alone
+pub differ-unknown : (v w : ℕ) → 2 ≤ w → differ v w ≡ false
+differ-unknown zero zero h = absurd (omega arith)
+differ-unknown zero (suc zero) h = absurd (omega arith)
+differ-unknown zero (suc (suc w)) h = refl
+differ-unknown (suc zero) zero h = absurd (omega arith)
+differ-unknown (suc zero) (suc w) h = refl
+differ-unknown (suc (suc v)) w h = refl
+
+pub differ-same : (v : ℕ) → differ v v ≡ false
+differ-same zero = refl
+differ-same (suc zero) = refl
+differ-same (suc (suc v)) = refl
+
+pub differ-opposite : (v : ℕ) → v < 2 → differ (neg v) v ≡ true
+differ-opposite zero h = refl
+differ-opposite (suc zero) h = refl
+differ-opposite (suc (suc v)) h = absurd (omega arith)
+
+pub opposite-differ : (v w : ℕ) → differ v w ≡ true → v ≡ neg w
+opposite-differ zero zero e = absurd (false≢true e)
+opposite-differ zero (suc zero) e = refl
+opposite-differ zero (suc (suc w)) e = absurd (false≢true e)
+opposite-differ (suc zero) zero e = refl
+opposite-differ (suc zero) (suc w) e = absurd (false≢true e)
+opposite-differ (suc (suc v)) w e = absurd (false≢true e)
+
+pub neg-neg : (v : ℕ) → v < 2 → neg (neg v) ≡ v
+neg-neg zero h = refl
+neg-neg (suc zero) h = refl
+neg-neg (suc (suc v)) h = absurd (omega arith)

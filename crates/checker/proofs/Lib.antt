@@ -1,0 +1,2 @@
+-- Laws of the definitions, which the proofs of this crate and of the crates above cite.
+pub mod RelationLaws
