@@ -1,2 +1,3 @@
 -- Laws of the definitions, which the proofs of this crate and of the crates above cite.
 pub mod RelationLaws
+pub mod TraceLaws
