@@ -5,7 +5,7 @@
 use mathlib.Core.Bool.{Bool, _&&_, _||_, cond, false, not, true, true≢false}
 use mathlib.Core.List.{List, [], _∷_}
 use mathlib.Core.Logic.{_⊎_, inl, inr, ⊎-elim}
-use mathlib.Core.Path.{_∙_, _≡_, ap, refl, subst, sym}
+use mathlib.Core.Path.{_∙_, _≡_, ap, refl, subst, subst⁻¹, sym}
 use Prim.Native.Nat.{_*_, _+_, _-_, _<_, _≤_, suc, zero, ℕ}
 use native.Mathlib.Nat.{le-of-suc-le-suc, not-suc-le-zero}
 use native.Mathlib.Omega.{arith}
@@ -14,7 +14,8 @@ use lib.ListN.{getD, length, set}
 use borrow.Author.Tests.{eq-eqb, eqb-false, eqb-true, ne-eqb}
 use Rattle.checker.specs.Window.{conclusion, hasRelation, held, inForce, known, outputConclusion, pinConclusion, pinFrame, presentBelow}
 use Rattle.checker.specs.declared.step.Step.{Step}
-use Rattle.circuit.proofs.GateLaws.{Controls, EveryPin, OtherPins, SomePin, controlled, controls-binary, controls-controlling, neg-binary, uncontrolled, unsettled}
+use Rattle.circuit.proofs.GateLaws.{Controls, EveryPin, OtherPins, SomePin, controls-binary, controls-controlling, neg-binary}
+use Rattle.circuit.proofs.GateLaws.{controlled, controlled-by, uncontrolled, uncontrolled-by, unsettled}
 use Rattle.circuit.proofs.GateLaws.{Parity, parity-open, parity-value, set-controlled, set-uncontrolled, set-uncontrolled-by, xnor-parity, xor-parity}
 use Rattle.circuit.proofs.GateLaws.{Wired, buffer-wired, flip-flop-wired, not-wired, output-wired, wired-value}
 use Rattle.circuit.proofs.ListLaws.{list-of-one, list-of-two}
@@ -94,10 +95,20 @@ module _ (net : Net) (s : StuckLines) (v : ℕ → ℕ) (n : ℕ) {c o : ℕ} (h
   unfolding outputConclusion
   pin-gives-output p = controlled h (pinValues net s v n) p
 
+  -- and only such a pin does
+  pub output-by-pin : outputConclusion net s v n ≡ o → SomePin c (pinValues net s v n)
+  unfolding outputConclusion
+  output-by-pin e = controlled-by h (pinValues net s v n) e
+
   -- "all pins 1 give 1"
   pub pins-give-output : EveryPin (neg c) (pinValues net s v n) → outputConclusion net s v n ≡ neg o
   unfolding outputConclusion
   pins-give-output p = uncontrolled h (pinValues net s v n) p
+
+  -- and only they do
+  pub output-by-pins : outputConclusion net s v n ≡ neg o → EveryPin (neg c) (pinValues net s v n)
+  unfolding outputConclusion
+  output-by-pins e = uncontrolled-by h (pinValues net s v n) e
 
   -- and otherwise nothing is concluded of the output
   pub output-open : (SomePin c (pinValues net s v n) → ⊥) → (EveryPin (neg c) (pinValues net s v n) → ⊥) → outputConclusion net s v n ≡ 2
@@ -136,11 +147,25 @@ module _ (net : Net) (s : StuckLines) (v : ℕ → ℕ) (n : ℕ) {c o : ℕ} (h
     pub pin-open : (OtherPins (neg c) (pinValues net s v n) j → ⊥) → pinConclusion net s v n o j ≡ 2
     pin-open p =
         chosen net s v n o j c (controls-controlling h)
-        ∙ choice-none (net .kind n) (pinValues net s v n) o j (isUnknown (s .pin n j)) c same (go (differ (gate (net .kind n) (set (pinValues net s v n) j (neg c))) o) refl)
+        ∙ choice-none (net .kind n) (pinValues net s v n) o j (isUnknown (s .pin n j)) c same
+        (go (differ (gate (net .kind n) (set (pinValues net s v n) j (neg c))) o) refl)
       where
         go : (b : Bool) → differ (gate (net .kind n) (set (pinValues net s v n) j (neg c))) o ≡ b → b ≡ false
         go true e = absurd (p (set-uncontrolled-by h (pinValues net s v n) j inside (opposite-differ _ o e)))
         go false e = refl
+
+    -- so the pin is concluded c only there
+    pub last-pin-by : pinConclusion net s v n o j ≡ c → OtherPins (neg c) (pinValues net s v n) j
+    last-pin-by e = go (differ (gate (net .kind n) (set (pinValues net s v n) j (neg c))) o) refl
+      where
+        neither : differ (gate (net .kind n) (set (pinValues net s v n) j (neg c))) o ≡ false → pinConclusion net s v n o j ≡ 2
+        neither q =
+            chosen net s v n o j c (controls-controlling h)
+            ∙ choice-none (net .kind n) (pinValues net s v n) o j (isUnknown (s .pin n j)) c same q
+
+        go : (b : Bool) → differ (gate (net .kind n) (set (pinValues net s v n) j (neg c))) o ≡ b → OtherPins (neg c) (pinValues net s v n) j
+        go true q = set-uncontrolled-by h (pinValues net s v n) j inside (opposite-differ _ o q)
+        go false q = let z : c ≡ 2 = sym e ∙ neither q in absurd (omega (arith, controls-binary h .0))
 
 -- "XOR, XNOR: two of the three values give the third." Of two equal values the third is e (XOR 0, XNOR 1: see Parity), of two different
 -- ones its opposite.
@@ -375,3 +400,38 @@ module _ (net : Net) (S : ℕ → StuckLines) where
     flip-flop-pin-open h =
         ap (λ (a : Step). a .value) (pin-line kn n (suc t) t (flip-flop-frame n t e) 0)
         ∙ ⊎-elim (unknown-output net (S t) (λ m. kn m t) n (kn n (suc t)) 0) (stuck-pin net (S t) (λ m. kn m t) n (kn n (suc t)) 0) h
+
+-- The same in the window of a fault with the stuck lines f, whose fault frame is c.
+module _ (net : Net) (c : ℕ) (f : StuckLines) (t : ℕ) where
+  -- "Below frame c, a faulted node is held at u from the start and nothing is concluded through its own relation"
+  pub node-below-c : t < c → (l : List ℕ) (n : ℕ) → f .node n < 2 → (known net (presentBelow c f) l n t ≡ f .node n) × (inForce net (presentBelow c f) n t ≡ false)
+  node-below-c h l n g = (held-known net (presentBelow c f) l n t low ∙ ap (λ (s : StuckLines). s .node n) e, held-not-in-force net (presentBelow c f) n t low)
+    where
+      e : presentBelow c f t ≡ f
+      e = present-below c f t h
+
+      low : presentBelow c f t .node n < 2
+      low = subst⁻¹ (λ (s : StuckLines). s .node n < 2) e g
+
+  -- "a faulted pin reads u and nothing is concluded of its source through it"
+  pub pin-below-c : t < c → (v : ℕ → ℕ) (n j : ℕ) → j < length (net .pins n) → f .pin n j < 2
+      → (at (pinValues net (presentBelow c f t) v n) j ≡ f .pin n j) × ((o : ℕ) → pinConclusion net (presentBelow c f t) v n o j ≡ 2)
+  pin-below-c h v n j l g = subst⁻¹ P (present-below c f t h) (stuck-pin-reads net f v n j l g, λ o. stuck-pin net f v n o j g)
+    where
+      P : StuckLines → Type 0
+      P s = (at (pinValues net s v n) j ≡ f .pin n j) × ((o : ℕ) → pinConclusion net s v n o j ≡ 2)
+
+  -- from c on no node is held, and each pin reads its source
+  pub node-from-c : c ≤ t → (l : List ℕ) (n : ℕ) → (known net (presentBelow c f) l n t ≡ getD l (t * net .size + n) 2) × (inForce net (presentBelow c f) n t ≡ hasRelation (net .kind n) t)
+  unfolding inForce held
+  node-from-c h l n = (concluded-known net (presentBelow c f) l n t high, ap (λ (s : StuckLines). isUnknown (s .node n) && hasRelation (net .kind n) t) e)
+    where
+      e : presentBelow c f t ≡ noneStuck
+      e = absent-from c f t h
+
+      high : 2 ≤ presentBelow c f t .node n
+      high = subst⁻¹ (λ (s : StuckLines). 2 ≤ s .node n) e (omega arith)
+
+  pub pin-from-c : c ≤ t → (v : ℕ → ℕ) (n j : ℕ) → j < length (net .pins n) → at (pinValues net (presentBelow c f t) v n) j ≡ v (at (net .pins n) j)
+  pin-from-c h v n j l =
+      subst⁻¹ (λ (s : StuckLines). at (pinValues net s v n) j ≡ v (at (net .pins n) j)) (absent-from c f t h) (free-pin-reads net noneStuck v n j l (omega arith))

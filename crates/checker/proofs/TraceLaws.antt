@@ -1,23 +1,25 @@
 -- The effect trace is what 01 says under "Effect trace", sentence by sentence, kind by kind, for every pin count together.
 -- A mark of 0 says that a line is untouched, one from 1 on that it is touched. Pin k of node n has the source at (net .pins n) k.
-use mathlib.Core.Bool.{Bool, _&&_, _||_, cond, false, false≢true, not, true, true≢false}
+use mathlib.Core.Bool.{Bool, _&&_, _||_, cond, false, false≢true, not, true}
 use mathlib.Core.List.{List, [], _∷_}
-use mathlib.Core.Logic.{_⊎_, inl, inr}
-use mathlib.Core.Path.{_∙_, _≡_, ap, refl, subst, subst⁻¹, sym}
+use mathlib.Core.Logic.{_⊎_, inl, inr, ⊎-elim}
+use mathlib.Core.Path.{_∙_, _≡_, ap, refl, sym}
 use Prim.Native.Nat.{_+_, _<_, _≤_, suc, zero, ℕ}
-use native.Mathlib.Nat.{add-suc, add-zero, le-of-suc-le-suc, not-suc-le-zero, suc-add, zero-add}
+use native.Mathlib.Nat.{add-zero, le-of-suc-le-suc, not-suc-le-zero, zero-add}
 use native.Mathlib.Omega.{arith}
 use lib.Dec.{eqb}
-use lib.ListN.{getD, length}
+use lib.ListN.{length}
 use borrow.Author.Tests.{eq-eqb, eqb-true, ne-eqb}
-use Rattle.checker.specs.Trace.{effectDies, gateMark, latchedMark, latchedMarks, latchedUntouched, mark, marksList, nodeMark, outputUntouched, pinMark, siteMark, someMark, untouchedValue}
+use Rattle.checker.specs.Trace.{effectDies, gateMark, latchedMark, latchedMarks, marksList, nodeMark, pinMark}
+use Rattle.checker.specs.Trace.{latchedUntouched, mark, outputUntouched, siteMark, someMark, untouchedValue}
 use Rattle.circuit.proofs.BoolLaws.{and-left, and-right, or-right}
 use Rattle.circuit.proofs.ClockLaws.{Ordered}
-use Rattle.circuit.proofs.GateLaws.{Controls, EveryPin, Parity, SomePin, Wired, controlled, controls-binary, neg-binary, parity-open, unsettled, wired-value}
+use Rattle.circuit.proofs.GateLaws.{Controls, EveryPin, Parity, SomePin, Wired, controls-binary, neg-binary, parity-open, wired-value}
+use Rattle.circuit.proofs.GateLaws.{controlled, controlled-by, uncontrolled-by, unsettled}
 use Rattle.circuit.proofs.ListLaws.{Below, build-agree, every-at, every-by, getD-build, indexed-agree, indexed-at, length-indexed, list-of-one, list-of-two}
-use Rattle.circuit.proofs.ValueLaws.{known-below, unknown-from}
+use Rattle.circuit.proofs.ValueLaws.{known-below, known-is, unknown-from}
 use Rattle.circuit.specs.Fault.{StuckLines, noneStuck}
-use Rattle.circuit.specs.Kind.{gate, invertedIf, isFlipFlop, isGiven, isInput, isOutput}
+use Rattle.circuit.specs.Kind.{gate, invertedIf, isFlipFlop, isGiven, isOutput}
 use Rattle.circuit.specs.Lists.{at, build, every, indexed}
 use Rattle.circuit.specs.Netlist.{Net}
 use Rattle.circuit.specs.Value.{isUnknown, neg}
@@ -36,6 +38,10 @@ module _ (u v otherwise : ℕ) where
 -- One frame: D has the lines whose fault starts to act in it, which at frame c are the faulted ones. From c + 1 on there are none
 -- (D is noneStuck), so that the laws of other pins and nodes hold of the faulted ones too.
 module _ (net : Net) (D : StuckLines) (v : ℕ → ℕ) (ms : ℕ → ℕ) (n : ℕ) where
+  -- the mark by the rules for the node's kind
+  abbrev markByKind : (ℕ → ℕ) → ℕ
+  markByKind latched = cond (isGiven (net .kind n)) (cond (isFlipFlop (net .kind n)) (latched n) 0) (gateMark net D v ms n)
+
   -- "a faulted pin at c is touched unless its source is known to be u there". m is the source of pin k.
   pub faulted-pin-touched : (k m : ℕ) → D .pin n k < 2 → (v m ≡ D .pin n k → ⊥) → pinMark net D v ms n k m ≡ 1
   unfolding pinMark
@@ -53,28 +59,28 @@ module _ (net : Net) (D : StuckLines) (v : ℕ → ℕ) (ms : ℕ → ℕ) (n : 
   -- "The faulted node at c is touched unless known to be u there"
   pub faulted-node-touched : (latched : ℕ → ℕ) → D .node n < 2 → (v n ≡ D .node n → ⊥) → nodeMark net D v latched ms n ≡ 1
   unfolding nodeMark
-  faulted-node-touched latched = site-touched (D .node n) (v n) (cond (isGiven (net .kind n)) (cond (isFlipFlop (net .kind n)) (latched n) 0) (gateMark net D v ms n))
+  faulted-node-touched latched = site-touched (D .node n) (v n) (markByKind latched)
 
   pub faulted-node-known : (latched : ℕ → ℕ) → D .node n < 2 → v n ≡ D .node n → nodeMark net D v latched ms n ≡ 0
   unfolding nodeMark
-  faulted-node-known latched = site-known (D .node n) (v n) (cond (isGiven (net .kind n)) (cond (isFlipFlop (net .kind n)) (latched n) 0) (gateMark net D v ms n))
+  faulted-node-known latched = site-known (D .node n) (v n) (markByKind latched)
 
-  other-node : (latched : ℕ → ℕ) → 2 ≤ D .node n
-      → nodeMark net D v latched ms n ≡ cond (isGiven (net .kind n)) (cond (isFlipFlop (net .kind n)) (latched n) 0) (gateMark net D v ms n)
+  -- any other, and "a faulted node follows the rules for its kind from c + 1 on"
+  other-node : (latched : ℕ → ℕ) → 2 ≤ D .node n → nodeMark net D v latched ms n ≡ markByKind latched
   unfolding nodeMark
-  other-node latched = site-other (D .node n) (v n) (cond (isGiven (net .kind n)) (cond (isFlipFlop (net .kind n)) (latched n) 0) (gateMark net D v ms n))
+  other-node latched = site-other (D .node n) (v n) (markByKind latched)
 
-  -- an input has no pins, and is untouched
+  -- an input has no pins: it is untouched
   pub input-untouched : (latched : ℕ → ℕ) → 2 ≤ D .node n → net .kind n ≡ 0 → nodeMark net D v latched ms n ≡ 0
   input-untouched latched h e =
       other-node latched h ∙ ap (λ (k : ℕ). cond (isGiven k) (cond (isFlipFlop k) (latched n) 0) (gateMark net D v ms n)) e
 
-  -- a flip-flop is what its pin was in the frame before (latched: see latchedMark below)
+  -- a flip-flop is touched if its pin was in the frame before: latched has these marks (latchedMark, below)
   pub flip-flop-mark : (latched : ℕ → ℕ) → 2 ≤ D .node n → net .kind n ≡ 2 → nodeMark net D v latched ms n ≡ latched n
   flip-flop-mark latched h e =
       other-node latched h ∙ ap (λ (k : ℕ). cond (isGiven k) (cond (isFlipFlop k) (latched n) 0) (gateMark net D v ms n)) e
 
-  -- any other node follows from its pins, as below
+  -- gates and outputs: by their pins, as below
   pub gate-node : (latched : ℕ → ℕ) → 2 ≤ D .node n → isGiven (net .kind n) ≡ false → nodeMark net D v latched ms n ≡ gateMark net D v ms n
   gate-node latched h e =
       other-node latched h ∙ ap (λ (b : Bool). cond b (cond (isFlipFlop (net .kind n)) (latched n) 0) (gateMark net D v ms n)) e
@@ -103,6 +109,15 @@ touched-open (suc m) v h = refl
 untouched-known : (m v c : ℕ) → c < 2 → untouchedValue m v ≡ c → (m ≡ 0) × (v ≡ c)
 untouched-known zero v c h e = (refl, e)
 untouched-known (suc m) v c h e = absurd (omega arith)
+
+either-value : (o v : ℕ) → o < 2 → v < 2 → (v ≡ o) ⊎ (v ≡ neg o)
+either-value zero zero h l = inl refl
+either-value zero (suc zero) h l = inr refl
+either-value (suc zero) zero h l = inr refl
+either-value (suc zero) (suc zero) h l = inl refl
+either-value (suc (suc o)) v h l = absurd (omega arith)
+either-value zero (suc (suc v)) h l = absurd (omega arith)
+either-value (suc zero) (suc (suc v)) h l = absurd (omega arith)
 
 module _ (net : Net) (D : StuckLines) (v : ℕ → ℕ) (ms : ℕ → ℕ) (n : ℕ) where
   -- the mark of pin k
@@ -143,14 +158,17 @@ module _ (net : Net) (D : StuckLines) (v : ℕ → ℕ) (ms : ℕ → ℕ) (n : 
   marked : TouchedPin → someMark pinMarks ≡ true
   marked p = some-mark pinMarks (p .0) (omega (arith, marks-length)) (rw (marks-at (p .0) (p .1)) (p .2))
 
+  marked-by : someMark pinMarks ≡ true → TouchedPin
+  marked-by e =
+      let r = mark-some pinMarks e in
+      let h : r .0 < length (net .pins n) = omega (arith, marks-length) in
+      (r .0, h, rw (marks-at (r .0) h) at (r .2))
+
   unmarked : (TouchedPin → ⊥) → someMark pinMarks ≡ false
   unmarked p = go (someMark pinMarks) refl
     where
       go : (b : Bool) → someMark pinMarks ≡ b → b ≡ false
-      go true e =
-          let r = mark-some pinMarks e in
-          let h : r .0 < length (net .pins n) = omega (arith, marks-length) in
-          absurd (p (r .0, h, rw (marks-at (r .0) h) at (r .2)))
+      go true e = absurd (p (marked-by e))
       go false e = refl
 
   -- a touched pin's value counts as unknown
@@ -162,26 +180,36 @@ module _ (net : Net) (D : StuckLines) (v : ℕ → ℕ) (ms : ℕ → ℕ) (n : 
   unfolding gateMark pinMarks untouchedValues
   no-touched-pin p = λ i. elim (unmarked p i) [ true ↦ mark (isUnknown (gate (net .kind n) untouchedValues)) | false ↦ 0 ]
 
+  -- so one that is touched has a touched pin
+  pub touched-pin-by : 1 ≤ gateMark net D v ms n → TouchedPin
+  unfolding gateMark pinMarks untouchedValues
+  touched-pin-by h = go (someMark pinMarks) refl h
+    where
+      go : (b : Bool) → someMark pinMarks ≡ b → 1 ≤ elim b [ true ↦ mark (isUnknown (gate (net .kind n) untouchedValues)) | false ↦ 0 ] → TouchedPin
+      go true e l = marked-by e
+      go false e l = absurd (omega arith)
+
   passes : TouchedPin → isUnknown (gate (net .kind n) untouchedValues) ≡ true → gateMark net D v ms n ≡ 1
   unfolding gateMark pinMarks untouchedValues
   passes p e = λ i. elim (marked p i) [ true ↦ mark (e i) | false ↦ 0 ]
 
   -- "An AND or NAND with a touched pin is touched unless an untouched pin is known 0; OR and NOR, known 1." c is this value: see Controls.
   module _ {c o : ℕ} (h : Controls (net .kind n) c o) where
+    known-pin : SomePin c untouchedValues → UntouchedPinAt c
+    known-pin r =
+        let l : r .0 < length (net .pins n) = omega (arith, values-length) in
+        let u = untouched-known (markOf (r .0)) (v (at (net .pins n) (r .0))) c (controls-binary h .0) (sym (values-at (r .0) l) ∙ r .2) in
+        (r .0, l, u .0, u .1)
+
+    not-all : TouchedPin → EveryPin (neg c) untouchedValues → ⊥
+    not-all p r =
+        let e : neg c ≡ 2 = sym (r (p .0) (omega (arith, values-length, p .1))) ∙ open-at p in
+        omega (arith, neg-binary c (controls-binary h .0))
+
     pub controls-touched : TouchedPin → (UntouchedPinAt c → ⊥) → gateMark net D v ms n ≡ 1
-    controls-touched p q = passes p (ap isUnknown (unsettled h untouchedValues some all))
-      where
-        some : SomePin c untouchedValues → ⊥
-        some r =
-            let l : r .0 < length (net .pins n) = omega (arith, values-length) in
-            let u = untouched-known (markOf (r .0)) (v (at (net .pins n) (r .0))) c (controls-binary h .0) (sym (values-at (r .0) l) ∙ r .2) in
-            q (r .0, l, u .0, u .1)
+    controls-touched p q = passes p (ap isUnknown (unsettled h untouchedValues (λ r. q (known-pin r)) (not-all p)))
 
-        all : EveryPin (neg c) untouchedValues → ⊥
-        all r =
-            let e : neg c ≡ 2 = sym (r (p .0) (omega (arith, values-length, p .1))) ∙ open-at p in
-            omega (arith, neg-binary c (controls-binary h .0))
-
+    -- an untouched pin known to be c keeps it untouched
     pub controls-untouched : UntouchedPinAt c → gateMark net D v ms n ≡ 0
     unfolding gateMark pinMarks untouchedValues
     controls-untouched p = go (someMark pinMarks)
@@ -194,6 +222,16 @@ module _ (net : Net) (D : StuckLines) (v : ℕ → ℕ) (ms : ℕ → ℕ) (n : 
         go : (b : Bool) → _≡_ {A = ℕ} (elim b [ true ↦ mark (isUnknown (gate (net .kind n) untouchedValues)) | false ↦ 0 ]) 0
         go true = ap (λ (x : ℕ). mark (isUnknown x)) settled ∙ ap mark (known-below o (controls-binary h .1))
         go false = refl
+
+    -- and only then
+    pub controls-untouched-by : TouchedPin → gateMark net D v ms n ≡ 0 → UntouchedPinAt c
+    controls-untouched-by p e = go (isUnknown (gate (net .kind n) untouchedValues)) refl
+      where
+        go : (b : Bool) → isUnknown (gate (net .kind n) untouchedValues) ≡ b → UntouchedPinAt c
+        go true q = let z : _≡_ {A = ℕ} 0 1 = sym e ∙ passes p q in absurd (omega arith)
+        go false q =
+            ⊎-elim (λ r. known-pin (controlled-by h untouchedValues r)) (λ r. absurd (not-all p (uncontrolled-by h untouchedValues r)))
+            (either-value o (gate (net .kind n) untouchedValues) (controls-binary h .1) (known-is (gate (net .kind n) untouchedValues) q))
 
   -- "Every other node with a touched pin is touched": outputs, buffers and NOTs,
   pub wired-touched : {i : Bool} → Wired (net .kind n) i → length (net .pins n) ≡ 1 → TouchedPin → gateMark net D v ms n ≡ 1
@@ -305,6 +343,14 @@ module _ (net : Net) (kn : ℕ → ℕ → ℕ) where
   abbrev pub marksAt : StuckLines → ℕ → List ℕ → ℕ → List ℕ
   marksAt D t latched r = frameMarks (startingIn D r) (t + r) (latchedAt D t latched r)
 
+  -- "Every other node with a touched pin is touched, a flip-flop one frame later": at t + r + 1 if a pin of it is touched at t + r
+  pub flip-flop-later : (D : StuckLines) (t : ℕ) (latched : List ℕ) (r n : ℕ) → Ordered net → n < net .size → net .kind n ≡ 2
+      → at (marksAt D t latched (suc r)) n ≡ latchedMark net (startingIn D r) (λ m. kn m (t + r)) (at (marksAt D t latched r)) n
+  flip-flop-later D t latched r n o l e =
+      marks-law net noneStuck (λ m. kn m (t + suc r)) (at (latchedAt D t latched (suc r))) n o l
+      ∙ flip-flop-mark net noneStuck (λ m. kn m (t + suc r)) (at (marksAt D t latched (suc r))) n (at (latchedAt D t latched (suc r))) (omega arith) e
+      ∙ latched-law net (startingIn D r) (λ m. kn m (t + r)) (at (marksAt D t latched r)) n l
+
   none-starting : (r : ℕ) → startingIn noneStuck r ≡ noneStuck
   none-starting zero = refl
   none-starting (suc r) = refl
@@ -414,12 +460,18 @@ module _ (net : Net) (kn : ℕ → ℕ → ℕ) where
 
     -- this is what effectDies says, no more and no less
     pub dies-says : effectDies net kn F t D latched ≡ true → NothingTouched F t D latched
-    dies-says e =
-        record {
-          outputs = λ r h n l. untouched-output (marksAt D t latched r) n (every-at (outputUntouched net (marksAt D t latched r)) (net .size) (dies-outputs F t D latched e r h) n l);
-          pins = λ n l q k g. none (markOf net (startingIn D F) (λ m. kn m (t + F)) (at (marksAt D t latched F)) n k) (λ z. pins-of n l (every-at (latchedUntouched (latchedAt D t latched (suc F))) (net .size) (dies-latches F t D latched e) n l) q (k, g, z));
-        }
+    dies-says e = record { outputs = outs; pins = λ n l q k g. none (markOf net (startingIn D F) (λ m. kn m (t + F)) (at (marksAt D t latched F)) n k) (lasts n l q k g) }
       where
+        outs : (r : ℕ) → r ≤ F → (n : ℕ) → n < net .size → net .kind n ≡ 1 → at (marksAt D t latched r) n ≡ 0
+        outs r h n l =
+            untouched-output (marksAt D t latched r) n
+            (every-at (outputUntouched net (marksAt D t latched r)) (net .size) (dies-outputs F t D latched e r h) n l)
+
+        lasts : (n : ℕ) → n < net .size → net .kind n ≡ 2 → (k : ℕ) → k < length (net .pins n)
+            → 1 ≤ markOf net (startingIn D F) (λ m. kn m (t + F)) (at (marksAt D t latched F)) n k → ⊥
+        lasts n l q k g z =
+            pins-of n l (every-at (latchedUntouched (latchedAt D t latched (suc F))) (net .size) (dies-latches F t D latched e) n l) q (k, g, z)
+
         none : (m : ℕ) → (1 ≤ m → ⊥) → m ≡ 0
         none zero h = refl
         none (suc m) h = absurd (h (omega arith))
@@ -428,7 +480,7 @@ module _ (net : Net) (kn : ℕ → ℕ → ℕ) where
     says-dies w =
         dies-by F t D latched
         (λ r h. every-by (outputUntouched net (marksAt D t latched r)) (net .size) (λ n l. output-untouched (marksAt D t latched r) n (w .outputs r h n l)))
-        (every-by (latchedUntouched (latchedAt D t latched (suc F))) (net .size) (λ n l. of-pins n l (λ k p. clash n l k p)))
+        (every-by (latchedUntouched (latchedAt D t latched (suc F))) (net .size) (λ n l. of-pins n l (clash n l)))
       where
         clash : (n : ℕ) → n < net .size → net .kind n ≡ 2 → TouchedPin net (startingIn D F) (λ m. kn m (t + F)) (at (marksAt D t latched F)) n → ⊥
         clash n l k p = let z = w .pins n l k (p .0) (p .1) in omega (arith, p .2)

@@ -438,3 +438,24 @@ pub parity-open : {k e : ℕ} → Parity k e → (v w : ℕ) → (2 ≤ v) ⊎ (
 unfolding gate ruleOf
 parity-open xor-parity v w h = xor-open v w h
 parity-open xnor-parity v w h = ap neg (xor-open v w h)
+
+-- Each kind is an input or one of these.
+pub data Family : ℕ → Type 0 where
+  input-family : Family 0
+  wired-family : {k : ℕ} {i : Bool} → Wired k i → Family k
+  controls-family : {k c o : ℕ} → Controls k c o → Family k
+  parity-family : {k e : ℕ} → Parity k e → Family k
+
+pub family : (k : ℕ) → k ≤ 10 → Family k
+family zero h = input-family
+family (suc zero) h = wired-family output-wired
+family (suc (suc zero)) h = wired-family flip-flop-wired
+family (suc (suc (suc zero))) h = wired-family buffer-wired
+family (suc (suc (suc (suc zero)))) h = wired-family not-wired
+family (suc (suc (suc (suc (suc zero))))) h = controls-family and-controls
+family (suc (suc (suc (suc (suc (suc zero)))))) h = controls-family nand-controls
+family (suc (suc (suc (suc (suc (suc (suc zero))))))) h = controls-family or-controls
+family (suc (suc (suc (suc (suc (suc (suc (suc zero)))))))) h = controls-family nor-controls
+family (suc (suc (suc (suc (suc (suc (suc (suc (suc zero))))))))) h = parity-family xor-parity
+family (suc (suc (suc (suc (suc (suc (suc (suc (suc (suc zero)))))))))) h = parity-family xnor-parity
+family (suc (suc (suc (suc (suc (suc (suc (suc (suc (suc (suc k))))))))))) h = absurd (omega arith)
