@@ -1,6 +1,6 @@
 -- Laws of a fault's stuck lines: its site is stuck at u, and no other line is.
 use mathlib.Core.Bool.{Bool, _&&_, cond, false, false≢true, true}
-use mathlib.Core.Path.{_∙_, _≡_, ap, refl, sym}
+use mathlib.Core.Path.{_∙_, _≡_, ap, refl}
 use Prim.Native.Nat.{ℕ}
 use lib.Dec.{eqb}
 use borrow.Author.Tests.{eq-eqb, eqb-true}
