@@ -1,6 +1,8 @@
 -- Laws of the definitions, which the proofs of this crate and of the crates above cite; and THE THEOREM.
+pub mod RelationLaws
 pub mod WindowLaws
 pub mod Agreement
+pub mod TraceLaws
 pub mod VerdictLaws
 pub mod HybridRuns
 pub mod Model

@@ -18,18 +18,6 @@ use Rattle.circuit.specs.Lists.{at}
 use Rattle.circuit.specs.Netlist.{Net}
 use Rattle.circuit.specs.Value.{differ, isUnknown, neg}
 
--- below frame c the fault is present
-pub present-low : (c t : ℕ) (f : StuckLines) → t < c → presentBelow c f t ≡ f
-present-low zero t f h = absurd (omega arith)
-present-low (suc c) zero f h = refl
-present-low (suc c) (suc t) f h = present-low c t f (omega arith)
-
--- from frame c on it is absent
-pub present-high : (c t : ℕ) (f : StuckLines) → c ≤ t → presentBelow c f t ≡ noneStuck
-present-high zero t f h = refl
-present-high (suc c) zero f h = absurd (omega arith)
-present-high (suc c) (suc t) f h = present-high c t f (omega arith)
-
 -- a relation's pins: a flip-flop's stand one frame earlier
 pub frame-before : (k t : ℕ) → isFlipFlop k ≡ true → t - 1 ≡ pinFrame k t
 frame-before k zero e = rw e

@@ -8,10 +8,11 @@ use native.Mathlib.Decide.{ℕ-discrete}
 use native.Mathlib.Nat.{le-of-suc-le-suc, not-suc-le-zero}
 use native.Mathlib.Omega.{arith}
 use lib.Dec.{eqb}
-use lib.ListN.{getD, length, set}
+use lib.ListN.{getD, length, length-set, set}
+use lib.Seq.{getD-set-other, getD-set-same, lt-length-set}
 use Rattle.circuit.proofs.ListLaws.{Below, bcons, bnil}
 use Rattle.circuit.proofs.ValueLaws.{and-zero, or-one}
-use Rattle.circuit.specs.Kind.{functionOf, gate, invertedIf, joinOf, ruleOf, unitOf}
+use Rattle.circuit.specs.Kind.{controlling, functionOf, gate, invertedIf, joinOf, ruleOf, unitOf}
 use Rattle.circuit.specs.Lists.{at, indexed}
 use Rattle.circuit.specs.Value.{and₂, neg, or₂, stuckOr, xor₂}
 use Rattle.circuit.specs.declared.kind.Gate.{Gate}
@@ -344,3 +345,143 @@ pub gate-mono : (k : ℕ) {vs ws : List ℕ} → RefinesAll vs ws → Refines (g
 unfolding gate
 gate-mono k {vs} {ws} h =
     inverted-mono (ruleOf k .inverted) (functionOf (ruleOf k .gate) vs) (functionOf (ruleOf k .gate) ws) (function-mono (ruleOf k .gate) h)
+
+-- Where no pin is c and not every pin is the other value, the output is unknown.
+function-three : {g : Gate} {c : ℕ} → Controlling g c → (vs : List ℕ) → functionOf g vs < 3
+function-three zero-at-and [] = omega arith
+function-three zero-at-and (v ∷ vs) = join v (functionOf And vs) (function-three zero-at-and vs)
+  where
+    join : (v w : ℕ) → w < 3 → and₂ v w < 3
+    join zero w h = omega arith
+    join (suc zero) w h = h
+    join (suc (suc v)) zero h = omega arith
+    join (suc (suc v)) (suc w) h = omega arith
+function-three one-at-or [] = omega arith
+function-three one-at-or (v ∷ vs) = join v (functionOf Or vs) (function-three one-at-or vs)
+  where
+    join : (v w : ℕ) → w < 3 → or₂ v w < 3
+    join zero w h = h
+    join (suc zero) w h = omega arith
+    join (suc (suc v)) zero h = omega arith
+    join (suc (suc v)) (suc zero) h = omega arith
+    join (suc (suc v)) (suc (suc w)) h = omega arith
+
+neg-three : (v : ℕ) → neg v < 3
+neg-three zero = omega arith
+neg-three (suc zero) = omega arith
+neg-three (suc (suc v)) = omega arith
+
+no-other : (v : ℕ) → v < 3 → (v ≡ 0 → ⊥) → (v ≡ 1 → ⊥) → v ≡ 2
+no-other zero h p q = absurd (p refl)
+no-other (suc zero) h p q = absurd (q refl)
+no-other (suc (suc v)) h p q = omega arith
+
+pub unsettled : {k c o : ℕ} → Controls k c o → (vs : List ℕ) → (SomePin c vs → ⊥) → (EveryPin (neg c) vs → ⊥) → gate k vs ≡ 2
+unfolding gate ruleOf
+unsettled and-controls vs p q =
+    no-other (gate 5 vs) (function-three zero-at-and vs) (λ e. p (controlled-by and-controls vs e)) (λ e. q (uncontrolled-by and-controls vs e))
+unsettled nand-controls vs p q =
+    no-other (gate 6 vs) (neg-three (functionOf And vs)) (λ e. q (uncontrolled-by nand-controls vs e)) (λ e. p (controlled-by nand-controls vs e))
+unsettled or-controls vs p q =
+    no-other (gate 7 vs) (function-three one-at-or vs) (λ e. q (uncontrolled-by or-controls vs e)) (λ e. p (controlled-by or-controls vs e))
+unsettled nor-controls vs p q =
+    no-other (gate 8 vs) (neg-three (functionOf Or vs)) (λ e. p (controlled-by nor-controls vs e)) (λ e. q (uncontrolled-by nor-controls vs e))
+
+pub controls-binary : {k c o : ℕ} → Controls k c o → (c < 2) × (o < 2)
+controls-binary and-controls = (omega arith, omega arith)
+controls-binary nand-controls = (omega arith, omega arith)
+controls-binary or-controls = (omega arith, omega arith)
+controls-binary nor-controls = (omega arith, omega arith)
+
+pub controls-controlling : {k c o : ℕ} → Controls k c o → controlling (ruleOf k .gate) ≡ c
+unfolding ruleOf
+controls-controlling and-controls = refl
+controls-controlling nand-controls = refl
+controls-controlling or-controls = refl
+controls-controlling nor-controls = refl
+
+-- every pin but pin j has the value c
+abbrev pub OtherPins : ℕ → List ℕ → ℕ → Type 0
+OtherPins c vs j = (i : ℕ) → i < length vs → (i ≡ j → ⊥) → at vs i ≡ c
+
+-- the same gate with pin j set to a value
+module _ {k c o : ℕ} (h : Controls k c o) (vs : List ℕ) (j : ℕ) (l : j < length vs) where
+  pub set-controlled : gate k (set vs j c) ≡ o
+  set-controlled = controlled h (set vs j c) (j, lt-length-set vs j c l, getD-set-same vs j c 0 l)
+
+  pub set-uncontrolled : OtherPins (neg c) vs j → gate k (set vs j (neg c)) ≡ neg o
+  set-uncontrolled q = uncontrolled h (set vs j (neg c)) go
+    where
+      go : EveryPin (neg c) (set vs j (neg c))
+      go i m = elim (ℕ-discrete i j) [
+        | yes e ↦ ap (at (set vs j (neg c))) e ∙ getD-set-same vs j (neg c) 0 l
+        | no d ↦ getD-set-other vs j i (neg c) 0 d ∙ q i (omega (arith, length-set vs j (neg c))) d
+      ]
+
+  pub set-uncontrolled-by : gate k (set vs j (neg c)) ≡ neg o → OtherPins (neg c) vs j
+  set-uncontrolled-by e i m d = sym (getD-set-other vs j i (neg c) 0 d) ∙ uncontrolled-by h (set vs j (neg c)) e i (lt-length-set vs j (neg c) m)
+
+-- outputs, flip-flops, buffers and NOTs: the pin's value, negated by a NOT alone
+pub data Wired : ℕ → Bool → Type 0 where
+  output-wired : Wired 1 false
+  flip-flop-wired : Wired 2 false
+  buffer-wired : Wired 3 false
+  not-wired : Wired 4 true
+
+pub wired-value : {k : ℕ} {i : Bool} → Wired k i → (v : ℕ) → gate k (v ∷ []) ≡ invertedIf i v
+unfolding gate ruleOf
+wired-value output-wired v = refl
+wired-value flip-flop-wired v = refl
+wired-value buffer-wired v = refl
+wired-value not-wired v = refl
+
+-- XOR and XNOR: two equal pins give e, two different ones the other value
+pub data Parity : ℕ → ℕ → Type 0 where
+  xor-parity : Parity 9 0
+  xnor-parity : Parity 10 1
+
+pub parity-value : {k e : ℕ} → Parity k e → (v w : ℕ) → v < 2 → w < 2 → gate k (v ∷ w ∷ []) ≡ cond (eqb v w) e (neg e)
+unfolding gate ruleOf
+parity-value xor-parity v w h l = xor-value v w h l
+parity-value xnor-parity v w h l = ap neg (xor-value v w h l) ∙ go (eqb v w)
+  where
+    go : (b : Bool) → neg (cond b 0 1) ≡ cond b 1 0
+    go true = refl
+    go false = refl
+
+-- an unknown pin makes the output unknown
+xor-open : (v w : ℕ) → (2 ≤ v) ⊎ (2 ≤ w) → gate 9 (v ∷ w ∷ []) ≡ 2
+unfolding gate ruleOf
+xor-open (suc (suc v)) w h = refl
+xor-open zero (suc (suc w)) h = refl
+xor-open (suc zero) (suc (suc w)) h = refl
+xor-open zero zero h = absurd (⊎-elim (λ l. omega arith) (λ l. omega arith) h)
+xor-open zero (suc zero) h = absurd (⊎-elim (λ l. omega arith) (λ l. omega arith) h)
+xor-open (suc zero) zero h = absurd (⊎-elim (λ l. omega arith) (λ l. omega arith) h)
+xor-open (suc zero) (suc zero) h = absurd (⊎-elim (λ l. omega arith) (λ l. omega arith) h)
+
+pub parity-open : {k e : ℕ} → Parity k e → (v w : ℕ) → (2 ≤ v) ⊎ (2 ≤ w) → gate k (v ∷ w ∷ []) ≡ 2
+unfolding gate ruleOf
+parity-open xor-parity v w h = xor-open v w h
+parity-open xnor-parity v w h = ap neg (xor-open v w h)
+
+-- Each kind is an input or one of these.
+pub data Family : ℕ → Type 0 where
+  input-family : Family 0
+  wired-family : {k : ℕ} {i : Bool} → Wired k i → Family k
+  controls-family : {k c o : ℕ} → Controls k c o → Family k
+  parity-family : {k e : ℕ} → Parity k e → Family k
+
+pub family : (k : ℕ) → k ≤ 10 → Family k
+family zero h = input-family
+family (suc zero) h = wired-family output-wired
+family (suc (suc zero)) h = wired-family flip-flop-wired
+family (suc (suc (suc zero))) h = wired-family buffer-wired
+family (suc (suc (suc (suc zero)))) h = wired-family not-wired
+family (suc (suc (suc (suc (suc zero))))) h = controls-family and-controls
+family (suc (suc (suc (suc (suc (suc zero)))))) h = controls-family nand-controls
+family (suc (suc (suc (suc (suc (suc (suc zero))))))) h = controls-family or-controls
+family (suc (suc (suc (suc (suc (suc (suc (suc zero)))))))) h = controls-family nor-controls
+family (suc (suc (suc (suc (suc (suc (suc (suc (suc zero))))))))) h = parity-family xor-parity
+family (suc (suc (suc (suc (suc (suc (suc (suc (suc (suc zero)))))))))) h = parity-family xnor-parity
+family (suc (suc (suc (suc (suc (suc (suc (suc (suc (suc (suc k))))))))))) h = absurd (omega arith)

@@ -4,6 +4,7 @@ pub mod ListLaws
 pub mod ValueLaws
 pub mod KindLaws
 pub mod GateLaws
+pub mod FaultLaws
 pub mod RefusalLaws
 pub mod NetlistLaws
 pub mod SoundLaws

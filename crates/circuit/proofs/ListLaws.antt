@@ -177,3 +177,15 @@ set-either P (x ∷ xs) zero zero a d f g = f refl
 set-either P (x ∷ xs) zero (suc j) a d f g = g
 set-either P (x ∷ xs) (suc i) zero a d f g = g
 set-either P (x ∷ xs) (suc i) (suc j) a d f g = set-either P xs i j a d (λ e. f (ap suc e)) g
+
+-- what holds of every list of one element, or of two, holds of each list of that length
+pub list-of-one : (P : List ℕ → Type 0) → ((a : ℕ) → P (a ∷ [])) → (l : List ℕ) → length l ≡ 1 → P l
+list-of-one P h [] e = absurd (omega arith)
+list-of-one P h (a ∷ []) e = h a
+list-of-one P h (a ∷ b ∷ l) e = absurd (omega arith)
+
+pub list-of-two : (P : List ℕ → Type 0) → ((a b : ℕ) → P (a ∷ b ∷ [])) → (l : List ℕ) → length l ≡ 2 → P l
+list-of-two P h [] e = absurd (omega arith)
+list-of-two P h (a ∷ []) e = absurd (omega arith)
+list-of-two P h (a ∷ b ∷ []) e = h a b
+list-of-two P h (a ∷ b ∷ c ∷ l) e = absurd (omega arith)

@@ -15,9 +15,20 @@ use Rattle.circuit.specs.Clock.{pinValues}
 use Rattle.circuit.specs.Fault.{StuckLines}
 use Rattle.circuit.specs.Kind.{functionOf, joinOf, unitOf}
 use Rattle.circuit.specs.Lists.{at}
-use Rattle.circuit.specs.Netlist.{lengthOf, netOf, sourceOf}
+use Rattle.circuit.specs.Netlist.{Net, lengthOf, netOf, sourceOf}
 use Rattle.circuit.specs.Value.{stuckOr}
 use Rattle.circuit.specs.declared.kind.Gate.{Gate}
+
+module _ (net : Net) (s : StuckLines) (v : ℕ → ℕ) (n : ℕ) where
+  -- one value for each pin
+  pub pin-count : length (pinValues net s v n) ≡ length (net .pins n)
+  unfolding pinValues
+  pin-count = length-indexed (λ k m. stuckOr (s .pin n k) (v m)) 0 (net .pins n)
+
+  -- what pin k reads, in any circuit: its source's value, or its stuck value
+  pub pin-reads : (k : ℕ) → k < length (net .pins n) → at (pinValues net s v n) k ≡ stuckOr (s .pin n k) (v (at (net .pins n) k))
+  unfolding pinValues
+  pin-reads k h = indexed-at (λ k m. stuckOr (s .pin n k) (v m)) 0 (net .pins n) k 0 h ∙ rw zero-add
 
 module _ (bs : List ℕ) (s : StuckLines) (v : ℕ → ℕ) (n : ℕ) where
   pub length-pinValues : length (pinValues (netOf bs) s v n) ≡ lengthOf bs n

@@ -105,3 +105,27 @@ differing zero (suc (suc w)) e = absurd (false≢true e)
 differing (suc zero) zero e = record { left-known = omega arith; right-known = omega arith; apart = λ q. omega arith }
 differing (suc zero) (suc w) e = absurd (false≢true e)
 differing (suc (suc v)) w e = absurd (false≢true e)
+
+-- nothing differs from itself; a known value differs from its opposite alone
+pub differ-same : (v : ℕ) → differ v v ≡ false
+differ-same zero = refl
+differ-same (suc zero) = refl
+differ-same (suc (suc v)) = refl
+
+pub differ-opposite : (v : ℕ) → v < 2 → differ (neg v) v ≡ true
+differ-opposite zero h = refl
+differ-opposite (suc zero) h = refl
+differ-opposite (suc (suc v)) h = absurd (omega arith)
+
+pub opposite-differ : (v w : ℕ) → differ v w ≡ true → v ≡ neg w
+opposite-differ zero zero e = absurd (false≢true e)
+opposite-differ zero (suc zero) e = refl
+opposite-differ zero (suc (suc w)) e = absurd (false≢true e)
+opposite-differ (suc zero) zero e = refl
+opposite-differ (suc zero) (suc w) e = absurd (false≢true e)
+opposite-differ (suc (suc v)) w e = absurd (false≢true e)
+
+pub neg-neg : (v : ℕ) → v < 2 → neg (neg v) ≡ v
+neg-neg zero h = refl
+neg-neg (suc zero) h = refl
+neg-neg (suc (suc v)) h = absurd (omega arith)

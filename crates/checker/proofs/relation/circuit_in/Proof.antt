@@ -1,6 +1,6 @@
 use mathlib.Core.Path.{sym}
 use Rattle.circuit.specs.Fault.{linesIn, linesOf}
-use Rattle.checker.proofs.WindowLaws.{present-low, present-high}
+use Rattle.checker.proofs.RelationLaws.{present-below, absent-from}
 use Rattle.checker.proofs.relation.circuit_in.Statement.{statement}
 use Rattle.checker.proofs.relation.circuit_in.Tie as tie
 use Rattle.checker.proofs.relation.circuit_in.Reads as reads
@@ -10,13 +10,13 @@ use Rattle.checker.proofs.relation.circuit_in.Lts as lts
 returns : tie.Need-returns
 unfolding linesIn
 returns c = let a = c .before .args in
-    sym (present-low (a .c) (a .frame) (linesOf (a .fault)) (c .if1 .taken))
+    sym (present-below (a .c) (linesOf (a .fault)) (a .frame) (c .if1 .taken))
 
 -- src/relation.rt:16:1
 returns-2 : tie.Need-returns-2
 unfolding linesIn
 returns-2 c = let a = c .before .args in
-    sym (present-high (a .c) (a .frame) (linesOf (a .fault)) (c .if1 .left))
+    sym (absent-from (a .c) (linesOf (a .fault)) (a .frame) (c .if1 .left))
 
 pub circuit-in-spec : {M : Type 1} → statement M
 circuit-in-spec = tie.close (tie.spec returns returns-2)
