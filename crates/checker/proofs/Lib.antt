@@ -1,6 +1,7 @@
 -- Laws of the definitions, which the proofs of this crate and of the crates above cite; and THE THEOREM.
 pub mod RelationLaws
 pub mod WindowLaws
+pub mod FollowLaws
 pub mod Agreement
 pub mod TraceLaws
 pub mod VerdictLaws

@@ -1,3 +1,14 @@
+use lib.Dec.{eqb}
+use Prim.Native.Nat.{ℕ, _*_, _+_}
+use mathlib.Core.Path.{_≡_, _∙_, sym, ap, refl}
+use mathlib.Core.Bool.{Bool, true, false}
+use borrow.Author.Tests.{eq-eqb, ne-eqb, not-true, not-false}
+use denote.Ref.{now}
+use Rattle.circuit.specs.Netlist.{netOf}
+use Rattle.circuit.specs.Lists.{at}
+use Rattle.circuit.specs.Fault.{linesOf}
+use Rattle.checker.specs.Window.{presentBelow, knownIn}
+use Rattle.checker.proofs.FollowLaws.{follows-by}
 use borrow.Author.Needs.{needs}
 use Rattle.checker.proofs.follow.step_follows.Statement.{statement}
 use Rattle.checker.proofs.follow.step_follows.Tie as tie
@@ -20,7 +31,13 @@ step-within-requires c κs = search needs
 
 -- src/follow.rt:95:9
 returns : tie.Need-returns
-returns c = ?
+unfolding netOf
+returns c = let a = c .before .before .before .before .before .args in
+    let net = netOf (now (a .netlist)) in
+    let S = presentBelow (a .c) (linesOf (a .fault)) in
+    let kn = knownIn (now (a .known)) (net .size) in
+    let f = follows-by net S (a .w) kn (a .step) (c .before .before .node-count .result) (c .before .before .node-count .ensures) in
+    f false _ _ _ (sym (c .before .step-within .ensures) ∙ not-true _ (c .if1 .taken)) refl refl refl
 
 -- src/follow.rt:102:9
 in-force-requires : tie.Need-in-force-requires
@@ -28,7 +45,13 @@ in-force-requires c κs = search needs
 
 -- src/follow.rt:103:9
 returns-2 : tie.Need-returns-2
-returns-2 c = ?
+unfolding netOf
+returns-2 c = let a = c .before .before .before .before .before .before .before .args in
+    let net = netOf (now (a .netlist)) in
+    let S = presentBelow (a .c) (linesOf (a .fault)) in
+    let kn = knownIn (now (a .known)) (net .size) in
+    let f = follows-by net S (a .w) kn (a .step) (c .before .before .before .before .node-count .result) (c .before .before .before .before .node-count .ensures) in
+    f true false _ _ (sym (c .before .before .before .step-within .ensures) ∙ not-false _ (c .before .before .if1 .left)) (sym (c .before .in-force .ensures) ∙ not-true _ (c .if2 .taken)) refl refl
 
 -- src/follow.rt:105:32
 place-of-requires : tie.Need-place-of-requires
@@ -40,7 +63,14 @@ byte-at-requires c κs = search needs
 
 -- src/follow.rt:106:9
 returns-3 : tie.Need-returns-3
-returns-3 c = ?
+unfolding netOf
+returns-3 c = let a = c .before .before .before .before .before .before .before .before .before .before .args in
+    let net = netOf (now (a .netlist)) in
+    let S = presentBelow (a .c) (linesOf (a .fault)) in
+    let kn = knownIn (now (a .known)) (net .size) in
+    let f = follows-by net S (a .w) kn (a .step) (c .before .before .before .before .before .before .before .node-count .result) (c .before .before .before .before .before .before .before .node-count .ensures) in
+    let q : c .before .byte-at .result ≡ kn (a .step .node) (a .step .frame) = c .before .byte-at .ensures ∙ ap (at (now (a .known))) (c .before .before .place-of .ensures ∙ ap (λ (m : ℕ). a .step .frame * m + a .step .node) (c .before .before .before .before .before .before .before .node-count .ensures)) in
+    f true true true _ (sym (c .before .before .before .before .before .before .step-within .ensures) ∙ not-false _ (c .before .before .before .before .before .if1 .left)) (sym (c .before .before .before .before .in-force .ensures) ∙ not-false _ (c .before .before .before .if2 .left)) (eq-eqb _ _ (sym q ∙ c .if3 .taken)) refl
 
 -- src/follow.rt:108:5
 some-line-gives-requires : tie.Need-some-line-gives-requires
@@ -48,7 +78,14 @@ some-line-gives-requires c κs = search needs
 
 -- src/follow.rt:90:1
 returns-4 : tie.Need-returns-4
-returns-4 c = ?
+unfolding netOf
+returns-4 c = let a = c .before .before .before .before .before .before .before .before .before .before .before .args in
+    let net = netOf (now (a .netlist)) in
+    let S = presentBelow (a .c) (linesOf (a .fault)) in
+    let kn = knownIn (now (a .known)) (net .size) in
+    let f = follows-by net S (a .w) kn (a .step) (c .before .before .before .before .before .before .before .before .node-count .result) (c .before .before .before .before .before .before .before .before .node-count .ensures) in
+    let q : c .before .before .byte-at .result ≡ kn (a .step .node) (a .step .frame) = c .before .before .byte-at .ensures ∙ ap (at (now (a .known))) (c .before .before .before .place-of .ensures ∙ ap (λ (m : ℕ). a .step .frame * m + a .step .node) (c .before .before .before .before .before .before .before .before .node-count .ensures)) in
+    f true true false (c .some-line-gives .result) (sym (c .before .before .before .before .before .before .before .step-within .ensures) ∙ not-false _ (c .before .before .before .before .before .before .if1 .left)) (sym (c .before .before .before .before .before .in-force .ensures) ∙ not-false _ (c .before .before .before .before .if2 .left)) (ap (λ (v : ℕ). eqb v (a .step .value)) (sym q) ∙ ne-eqb _ _ (c .before .if3 .left)) (sym (c .some-line-gives .ensures))
 
 pub step-follows-spec : {M : Type 1} → statement M
 step-follows-spec =

@@ -28,7 +28,7 @@ byte-at-requires-3 c κs = search needs
 
 -- src/step.rt:15:1
 returns : tie.Need-returns
-returns c = ?
+returns c = rw (c .before .before .before .before .u16-at .ensures, c .before .before .before .byte-at .ensures, c .before .before .byte-at2 .ensures, c .before .u16-at2 .ensures, c .byte-at3 .ensures)
 
 pub step-at-spec : {M : Type 1} → statement M
 step-at-spec =
