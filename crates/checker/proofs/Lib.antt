@@ -4,6 +4,7 @@ pub mod WindowLaws
 pub mod FollowLaws
 pub mod Agreement
 pub mod TraceLaws
+pub mod MarkLaws
 pub mod VerdictLaws
 pub mod HybridRuns
 pub mod Model

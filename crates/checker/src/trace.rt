@@ -1,2 +1,132 @@
-// The effect trace.
+// The effect trace: which lines may show the fault's effect, frame by frame from c on. The marks of
+// one frame lie in the first n bytes of the lent slice, 1 for a touched node and 0 for another.
 ghost use mathlib.Core.Path.{_≡_};
+ghost use mathlib.Core.Bool.{_&&_};
+ghost use mathlib.Core.List.{_++_, []};
+ghost use Prim.Native.Nat.{_*_, _+_, _≤_};
+ghost use lib.ListN.{drop, length, replicate, take};
+ghost use Rattle.circuit.specs.Fault.{linesIn, linesOf};
+ghost use Rattle.circuit.specs.Kind.{gate};
+ghost use Rattle.circuit.specs.Lists.{at, every, indexed};
+ghost use Rattle.circuit.specs.Netlist.{kindOf, netOf, sourceOf};
+ghost use Rattle.checker.specs.Window.{knownIn};
+ghost use Rattle.checker.specs.Trace.{effectDies, gateMark, latchedMark, latchedMarks, latchedUntouched, mark, marksList, nodeMark, outputUntouched, pinMark, siteMark, someMark, traced, tracing, untouchedValue};
+use crate::window::place_of;
+use circuit::Circuit;
+use circuit::Fault;
+use circuit::FLIP_FLOP;
+use circuit::NOT_STUCK;
+use circuit::OUTPUT;
+use circuit::UNKNOWN;
+
+// A faulted line is touched unless its value is known to be the stuck one; any other as it is said.
+fn site_mark(stuck: u8, value: u8, otherwise: u8) -> u8
+    ensures { λ r. ⌜ r ≡ siteMark stuck value otherwise ⌝ }
+{
+    if stuck >= NOT_STUCK {
+        return otherwise;
+    }
+    if value == stuck { 0 } else { 1 }
+}
+
+// The mark of a node below the limit; no other node counts as touched.
+fn mark_below(marks: &[u8], limit: u16, node: u16) -> u8
+    ensures { λ r. ⌜ r ≡ at (take limit (now (marks .entry))) node ⌝ }
+{
+    if node < limit {
+        return circuit::byte_at(marks, node as usize);
+    }
+    0
+}
+
+// A pin is touched if its source is, and a faulted one by the rule for faulted lines.
+fn pin_mark(netlist: &[u8], circuit: Circuit, values: &[u8], marks: &[u8], limit: u16, node: u16, pin: u16) -> u8
+    ensures { λ r. ⌜ r ≡ pinMark (netOf (now (netlist .entry))) (linesIn circuit) (at (now (values .entry))) (at (take limit (now (marks .entry)))) node pin (sourceOf (now (netlist .entry)) node pin) ⌝ }
+{
+    let source = circuit::source_of(netlist, node, pin);
+    let stuck = circuit::stuck_pin(circuit, node, pin);
+    let value = circuit::byte_at(values, source as usize);
+    site_mark(stuck, value, mark_below(marks, limit, source))
+}
+
+// Whether one of a node's pins is touched.
+fn some_pin_touched(netlist: &[u8], circuit: Circuit, values: &[u8], marks: &[u8], limit: u16, node: u16) -> bool
+    ensures { λ r. ⌜ r ≡ someMark (indexed (pinMark (netOf (now (netlist .entry))) (linesIn circuit) (at (now (values .entry))) (at (take limit (now (marks .entry)))) node) 0 (netOf (now (netlist .entry)) .pins node)) ⌝ }
+{
+    let mut pin = circuit::length_of(netlist, node);
+    while 0 < pin {
+        pin -= 1;
+        if pin_mark(netlist, circuit, values, marks, limit, node, pin) != 0 {
+            return true;
+        }
+    }
+    false
+}
+
+// What a pin is known to read if it is untouched; a touched one is unknown.
+fn untouched_value(netlist: &[u8], circuit: Circuit, values: &[u8], marks: &[u8], limit: u16, node: u16, pin: u16) -> u8
+    ensures { λ r. ⌜ r ≡ untouchedValue (pinMark (netOf (now (netlist .entry))) (linesIn circuit) (at (now (values .entry))) (at (take limit (now (marks .entry)))) node pin (sourceOf (now (netlist .entry)) node pin)) (at (now (values .entry)) (sourceOf (now (netlist .entry)) node pin)) ⌝ }
+{
+    if pin_mark(netlist, circuit, values, marks, limit, node, pin) != 0 {
+        return UNKNOWN;
+    }
+    let source = circuit::source_of(netlist, node, pin);
+    circuit::byte_at(values, source as usize)
+}
+
+// What a node makes of its untouched pins.
+fn untouched_gate(netlist: &[u8], circuit: Circuit, values: &[u8], marks: &[u8], limit: u16, node: u16) -> u8
+    ensures { λ r. ⌜ r ≡ gate (kindOf (now (netlist .entry)) node) (indexed (λ k m. untouchedValue (pinMark (netOf (now (netlist .entry))) (linesIn circuit) (at (now (values .entry))) (at (take limit (now (marks .entry)))) node k m) (at (now (values .entry)) m)) 0 (netOf (now (netlist .entry)) .pins node)) ⌝ }
+{
+    let rule = circuit::rule_of(circuit::kind_of(netlist, node));
+    let gate = rule.gate;
+    let mut value = circuit::unit_of(gate);
+    let mut pin = circuit::length_of(netlist, node);
+    while 0 < pin {
+        pin -= 1;
+        let read = untouched_value(netlist, circuit, values, marks, limit, node, pin);
+        value = circuit::join_of(gate, read, value);
+    }
+    circuit::inverted_if(rule.inverted, value)
+}
+
+// A node with a touched pin is touched unless its untouched pins settle its value.
+fn gate_mark(netlist: &[u8], circuit: Circuit, values: &[u8], marks: &[u8], limit: u16, node: u16) -> u8
+    ensures { λ r. ⌜ r ≡ gateMark (netOf (now (netlist .entry))) (linesIn circuit) (at (now (values .entry))) (at (take limit (now (marks .entry)))) node ⌝ }
+{
+    if !some_pin_touched(netlist, circuit, values, marks, limit, node) {
+        return 0;
+    }
+    if untouched_gate(netlist, circuit, values, marks, limit, node) < UNKNOWN { 0 } else { 1 }
+}
+
+// The mark of a node, where its own place holds what its flip-flop latched, and the places below it
+// hold the marks of this frame.
+fn node_mark(netlist: &[u8], circuit: Circuit, values: &[u8], marks: &[u8], node: u16) -> u8
+    ensures { λ r. ⌜ r ≡ nodeMark (netOf (now (netlist .entry))) (linesIn circuit) (at (now (values .entry))) (at (now (marks .entry))) (at (take node (now (marks .entry)))) node ⌝ }
+{
+    let stuck = circuit::stuck_node(circuit, node);
+    let value = circuit::byte_at(values, node as usize);
+    let kind = circuit::kind_of(netlist, node);
+    if kind == FLIP_FLOP {
+        return site_mark(stuck, value, circuit::byte_at(marks, node as usize));
+    }
+    if circuit::is_given(kind) {
+        return site_mark(stuck, value, 0);
+    }
+    site_mark(stuck, value, gate_mark(netlist, circuit, values, marks, node, node))
+}
+
+// Puts each node's mark into its place, by rising node number.
+fn mark_nodes(netlist: &[u8], n: u16, circuit: Circuit, values: &[u8], marks: &mut [u8])
+    requires { ⌜ n ≡ netOf (now netlist) .size ⌝ }
+    requires { ⌜ n ≤ length (now marks) ⌝ }
+    ensures { λ _. ⌜ now (marks .exit) ≡ marksList (netOf (now (netlist .entry))) (linesIn circuit) (at (now (values .entry))) (at (now (marks .entry))) ++ drop n (now (marks .entry)) ⌝ }
+{
+    let mut node: u16 = 0;
+    while node < n {
+        let value = node_mark(netlist, circuit, values, marks, node);
+        circuit::store(marks, node as usize, value);
+        node += 1;
+    }
+}

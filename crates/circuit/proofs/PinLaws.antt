@@ -14,7 +14,7 @@ use Rattle.circuit.proofs.NetlistLaws.{pins-at, pins-length}
 use Rattle.circuit.specs.Clock.{pinValues}
 use Rattle.circuit.specs.Fault.{StuckLines}
 use Rattle.circuit.specs.Kind.{functionOf, joinOf, unitOf}
-use Rattle.circuit.specs.Lists.{at}
+use Rattle.circuit.specs.Lists.{at, indexed}
 use Rattle.circuit.specs.Netlist.{Net, lengthOf, netOf, sourceOf}
 use Rattle.circuit.specs.Value.{stuckOr}
 use Rattle.circuit.specs.declared.kind.Gate.{Gate}
@@ -30,17 +30,23 @@ module _ (net : Net) (s : StuckLines) (v : ℕ → ℕ) (n : ℕ) where
   unfolding pinValues
   pin-reads k h = indexed-at (λ k m. stuckOr (s .pin n k) (v m)) 0 (net .pins n) k 0 h ∙ rw zero-add
 
+-- a list with one element for each pin of a node, made of the pin's number and its source
+module _ (bs : List ℕ) (f : ℕ → ℕ → ℕ) (n : ℕ) where
+  pub length-by-pin : length (indexed f 0 (netOf bs .pins n)) ≡ lengthOf bs n
+  length-by-pin = length-indexed f 0 (netOf bs .pins n) ∙ pins-length bs n
+
+  pub by-pin-at : (k : ℕ) → k < lengthOf bs n → at (indexed f 0 (netOf bs .pins n)) k ≡ f k (sourceOf bs n k)
+  by-pin-at k h = indexed-at f 0 (netOf bs .pins n) k 0 (omega (arith, pins-length bs n)) ∙ rw (zero-add, pins-at bs n k h)
+
+-- what a node's pins read
 module _ (bs : List ℕ) (s : StuckLines) (v : ℕ → ℕ) (n : ℕ) where
   pub length-pinValues : length (pinValues (netOf bs) s v n) ≡ lengthOf bs n
   unfolding pinValues
-  length-pinValues = length-indexed (λ k m. stuckOr (s .pin n k) (v m)) 0 (netOf bs .pins n) ∙ pins-length bs n
+  length-pinValues = length-by-pin bs (λ k m. stuckOr (s .pin n k) (v m)) n
 
-  -- what pin k reads
   pub pinValues-at : (k : ℕ) → k < lengthOf bs n → at (pinValues (netOf bs) s v n) k ≡ stuckOr (s .pin n k) (v (sourceOf bs n k))
   unfolding pinValues
-  pinValues-at k h =
-      indexed-at (λ k m. stuckOr (s .pin n k) (v m)) 0 (netOf bs .pins n) k 0 (omega (arith, pins-length bs n))
-      ∙ rw (zero-add, pins-at bs n k h)
+  pinValues-at = by-pin-at bs (λ k m. stuckOr (s .pin n k) (v m)) n
 
 -- the same with one pin taken to read another value
 module _ (bs : List ℕ) (s : StuckLines) (v : ℕ → ℕ) (n a w : ℕ) where

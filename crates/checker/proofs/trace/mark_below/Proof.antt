@@ -1,0 +1,26 @@
+use mathlib.Core.Path.{_∙_}
+use denote.Ref.{now}
+use Rattle.circuit.proofs.ListLaws.{take-inside, take-outside}
+use borrow.Author.Needs.{needs}
+use Rattle.checker.proofs.trace.mark_below.Statement.{statement}
+use Rattle.checker.proofs.trace.mark_below.Tie as tie
+use Rattle.checker.proofs.trace.mark_below.Reads as reads
+use Rattle.checker.proofs.trace.mark_below.Lts as lts
+use Rattle.circuit.proofs.byte_at.Reads as byte-at-reads
+
+-- src/trace.rt:37:9
+byte-at-requires : tie.Need-byte-at-requires
+byte-at-requires c κs = search needs
+
+-- src/trace.rt:37:9
+returns : tie.Need-returns
+returns c = let a = c .before .before .before .args in
+    c .byte-at .ensures ∙ take-inside (now (a .marks)) (a .limit) (a .node) (c .before .if1 .taken)
+
+-- src/trace.rt:33:1
+returns-2 : tie.Need-returns-2
+returns-2 c = let a = c .before .before .args in
+    take-outside (now (a .marks)) (a .limit) (a .node) (c .if1 .left)
+
+pub mark-below-spec : {M : Type 1} → statement M
+mark-below-spec = tie.close (tie.spec byte-at-requires returns returns-2)

@@ -1,0 +1,21 @@
+use borrow.Author.Tests.{eq-eqb, ne-eqb}
+use Rattle.circuit.proofs.ValueLaws.{known-low, unknown-high}
+use Rattle.checker.proofs.trace.site_mark.Statement.{statement}
+use Rattle.checker.proofs.trace.site_mark.Tie as tie
+use Rattle.checker.proofs.trace.site_mark.Reads as reads
+use Rattle.checker.proofs.trace.site_mark.Lts as lts
+
+-- src/trace.rt:27:9
+returns : tie.Need-returns
+returns c = rw (unknown-high (c .before .args .stuck) (c .if1 .taken))
+
+-- src/trace.rt:23:1
+returns-2 : tie.Need-returns-2
+returns-2 c = rw (known-low (c .before .before .args .stuck) (c .before .if1 .left), eq-eqb _ _ (c .if2 .taken))
+
+-- src/trace.rt:23:1
+returns-3 : tie.Need-returns-3
+returns-3 c = rw (known-low (c .before .before .args .stuck) (c .before .if1 .left), ne-eqb _ _ (c .if2 .left))
+
+pub site-mark-spec : {M : Type 1} → statement M
+site-mark-spec = tie.close (tie.spec returns returns-2 returns-3)

@@ -1,0 +1,118 @@
+use Rattle.checker.specs.Trace.{pinMark, untouchedValue}
+use Rattle.circuit.specs.Kind.{functionOf, gate}
+use Rattle.circuit.proofs.PinLaws.{function-none, function-more}
+use borrow.Author.Needs.{needs}
+use Prim.Native.Nat.{ℕ, _≤_, _<_, _-_}
+use native.Mathlib.Omega.{arith}
+use mathlib.Core.Path.{_≡_, _∙_, sym, ap}
+use lib.ListN.{drop, length, take}
+use denote.Ref.{now}
+use Rattle.circuit.specs.Netlist.{lengthOf, netOf}
+use Rattle.circuit.specs.Lists.{at, indexed}
+use Rattle.circuit.specs.Fault.{linesIn}
+use Rattle.circuit.proofs.PinLaws.{length-by-pin, by-pin-at}
+use Rattle.checker.proofs.trace.untouched_gate.Statement.{statement}
+use Rattle.checker.proofs.trace.untouched_gate.Tie as tie
+use Rattle.checker.proofs.trace.untouched_gate.Reads as reads
+use Rattle.checker.proofs.trace.untouched_gate.Lts as lts
+use Rattle.checker.proofs.trace.untouched_value.Reads as untouched-value-reads
+use Rattle.circuit.proofs.inverted_if.Reads as inverted-if-reads
+use Rattle.circuit.proofs.join_of.Reads as join-of-reads
+use Rattle.circuit.proofs.rule_of.Reads as rule-of-reads
+use Rattle.circuit.proofs.unit_of.Reads as unit-of-reads
+use Rattle.circuit.proofs.kind_of.Reads as kind-of-reads
+use Rattle.circuit.proofs.length_of.Reads as length-of-reads
+
+abbrev Inv-loop : tie.InvT-loop
+Inv-loop netlist circuit values marks limit node rule gate value₀ pin₀ value pin = (pin ≤ lengthOf netlist node) × (value ≡ functionOf gate (drop pin (indexed (λ k m. untouchedValue (pinMark (netOf netlist) (linesIn circuit) (at values) (at (take limit marks)) node k m) (at values m)) 0 (netOf netlist .pins node))))
+
+abbrev μ-loop : tie.MeasureT-loop
+μ-loop netlist circuit values marks limit node rule gate value₀ pin₀ value pin = pin
+
+-- src/trace.rt:81:33
+kind-of-requires : tie.Need-kind-of-requires Inv-loop μ-loop
+kind-of-requires c κs = search needs
+
+-- src/trace.rt:81:9
+rule-of-requires : tie.Need-rule-of-requires Inv-loop μ-loop
+rule-of-requires c κs = search needs
+
+-- src/trace.rt:83:9
+unit-of-requires : tie.Need-unit-of-requires Inv-loop μ-loop
+unit-of-requires c κs = search needs
+
+-- src/trace.rt:84:9
+length-of-requires : tie.Need-length-of-requires Inv-loop μ-loop
+length-of-requires c κs = search needs
+
+-- src/trace.rt:85:5
+loop-holds : tie.Need-loop-holds Inv-loop μ-loop
+loop-holds c = let a = c .before .before .before .before .before .before .before .args in
+    let s = now (a .netlist) in
+    let f = (λ k m. untouchedValue (pinMark (netOf s) (linesIn (a .circuit)) (at (now (a .values))) (at (take (a .limit) (now (a .marks)))) (a .node) k m) (at (now (a .values)) m)) in
+    let ms = indexed f 0 (netOf s .pins (a .node)) in
+    let len = length-by-pin s f (a .node) in
+    (omega (arith, c .length-of .ensures), rw (c .before .unit-of .ensures, c .length-of .ensures, ← len) (function-none (c .before .before .rule-of .result .gate) ms))
+
+-- src/trace.rt:86:9
+sub-pin : tie.Need-sub-pin Inv-loop μ-loop
+sub-pin c = search needs
+
+-- src/trace.rt:87:13
+untouched-value-requires : tie.Need-untouched-value-requires Inv-loop μ-loop
+untouched-value-requires c κs = search needs
+
+-- src/trace.rt:88:9
+join-of-requires : tie.Need-join-of-requires Inv-loop μ-loop
+join-of-requires c κs = search needs
+
+-- src/trace.rt:85:5
+loop-less : tie.Need-loop-less Inv-loop μ-loop
+loop-less c = omega arith
+
+-- src/trace.rt:85:5
+loop-again : tie.Need-loop-again Inv-loop μ-loop
+loop-again c = let a = c .before .before .before .before .before .before .before .before .before .before .before .args in
+    let s = now (a .netlist) in
+    let f = (λ k m. untouchedValue (pinMark (netOf s) (linesIn (a .circuit)) (at (now (a .values))) (at (take (a .limit) (now (a .marks)))) (a .node) k m) (at (now (a .values)) m)) in
+    let ms = indexed f 0 (netOf s .pins (a .node)) in
+    let len = length-by-pin s f (a .node) in
+    let g = c .before .before .before .before .before .before .rule-of .result .gate in
+    let i = c .before .before .before .loop in
+    let h : i .pin - 1 < lengthOf s (a .node) = omega (arith, i .inv .0, c .before .before .loop-test .taken) in
+    let e = c .before .untouched-value .ensures ∙ sym (by-pin-at s f (a .node) (i .pin - 1) h) in
+    (
+      omega (arith, h),
+      rw (c .join-of .ensures, e, i .inv .1)
+      (function-more g ms (i .pin) (c .before .before .loop-test .taken) (omega (arith, len, i .inv .0))),
+    )
+
+-- src/trace.rt:90:5
+inverted-if-requires : tie.Need-inverted-if-requires Inv-loop μ-loop
+inverted-if-requires c κs = search needs
+
+-- src/trace.rt:78:1
+returns : tie.Need-returns Inv-loop μ-loop
+unfolding gate
+returns c = let i = c .before .before .loop in
+    let z : i .pin ≡ 0 = omega arith in
+    rw (c .inverted-if .ensures, i .inv .1, z, c .before .before .before .before .before .rule-of .ensures, c .before .before .before .before .before .before .kind-of .ensures)
+
+pub untouched-gate-spec : {M : Type 1} → statement M
+untouched-gate-spec =
+    tie.close
+    (tie.spec
+    Inv-loop
+    μ-loop
+    kind-of-requires
+    rule-of-requires
+    unit-of-requires
+    length-of-requires
+    loop-holds
+    sub-pin
+    untouched-value-requires
+    join-of-requires
+    loop-less
+    loop-again
+    inverted-if-requires
+    returns)
