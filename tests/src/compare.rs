@@ -1,6 +1,7 @@
 //! One call given to the library and to the model: the same answer, and the
 //! same bytes in everything that was lent.
 
+use crate::circuits::calls;
 use crate::model;
 use crate::native::{self, FaultBytes};
 use crate::random::Random;
@@ -117,18 +118,12 @@ pub fn check(
     assert_eq!(second, model_second, "second work slice: {}", call());
     let cleared = match answer {
         1..=13 => 0,
-        _ => window_places(netlist, certificate),
+        _ => calls::work_needed(netlist, certificate),
     };
     for (after, before) in [(first, &lent[0]), (second, &lent[1])] {
         assert_cleared(&after, before, cleared, answer);
     }
     answer
-}
-
-/// N × (c + F + 1), straight from the bytes of a netlist and a certificate.
-fn window_places(netlist: &[u8], certificate: &[u8]) -> usize {
-    let nodes = usize::from(netlist[0]) + 256 * usize::from(netlist[1]);
-    nodes * (usize::from(certificate[4]) + usize::from(certificate[5]) + 1)
 }
 
 /// The first `cleared` lent bytes are 0, all others are what they were.

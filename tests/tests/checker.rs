@@ -4,8 +4,9 @@ use leverpeach_tests::cases::{run, Tally};
 use leverpeach_tests::circuits::certificates::{self, Argument};
 use leverpeach_tests::circuits::{calls, damaged, mutants, small, sound, structured, Draft};
 use leverpeach_tests::compare;
+use leverpeach_tests::model::certificate::Subject;
 use leverpeach_tests::model::window::{Line, Step};
-use leverpeach_tests::model::{Fault, Site};
+use leverpeach_tests::model::{self, kind, Checked, Fault, Site};
 use leverpeach_tests::native::{self, accepted_number};
 use leverpeach_tests::random::Random;
 use std::fs;
@@ -19,16 +20,14 @@ fn a_fault(random: &mut Random, draft: &Draft) -> Fault {
 
 /// Checks with work slices that are mostly long enough.
 fn check(random: &mut Random, netlist: &[u8], certificate: &[u8]) -> u64 {
-    let nodes = usize::from(netlist[0]) + 256 * usize::from(netlist[1]);
-    let needed = calls::work_needed(nodes, certificate);
+    let needed = calls::work_needed(netlist, certificate);
     let [first, second] = calls::work_slices(random, needed);
     compare::check(random, netlist, certificate, &first, &second)
 }
 
 /// Checks with work slices that are just long enough.
 fn check_in_just_enough(random: &mut Random, netlist: &[u8], certificate: &[u8]) -> u64 {
-    let nodes = usize::from(netlist[0]) + 256 * usize::from(netlist[1]);
-    let needed = calls::work_needed(nodes, certificate);
+    let needed = calls::work_needed(netlist, certificate);
     let (first, second) = (random.bytes(needed), random.bytes(needed));
     compare::check(random, netlist, certificate, &first, &second)
 }
@@ -76,6 +75,24 @@ fn steps_that_follow_are_allowed_in_any_order() {
         tally.count(answer);
     });
     tally.assert_met(&[0, 15], 1_000);
+}
+
+#[test]
+fn the_order_of_all_steps_that_follow_does_not_matter() {
+    let mut tally = Tally::default();
+    run("orders", 4_000, |_, random| {
+        let draft = small::any(random);
+        let netlist = draft.to_bytes();
+        let fault = a_fault(random, &draft);
+        let subject = certificates::subject(random, fault, draft.nodes.len(), 4);
+        let swept = certificates::swept(&netlist, subject).to_bytes();
+        let walked = certificates::walked(random, &netlist, subject, usize::MAX).to_bytes();
+        let answer = check_in_just_enough(random, &netlist, &swept);
+        let other = check_in_just_enough(random, &netlist, &walked);
+        assert_eq!(answer, other, "swept {swept:?}, walked {walked:?}");
+        tally.count(answer);
+    });
+    tally.assert_met(&[0, 15], 500);
 }
 
 #[test]
@@ -150,8 +167,8 @@ fn argument(random: &mut Random, draft: &Draft, closing: bool) -> Option<Argumen
     let argument = certificates::swept(&netlist, subject);
     let places = draft.nodes.len() * subject.frames();
     let (mut first, mut second) = (vec![0; places], vec![0; places]);
-    let answer = native::check(&netlist, &argument.to_bytes(), &mut first, &mut second);
-    (answer == 15).then_some(argument)
+    let checked = model::check(&netlist, &argument.to_bytes(), &mut first, &mut second);
+    (checked == Checked::Refused(15)).then_some(argument)
 }
 
 #[test]
@@ -169,13 +186,14 @@ fn the_smallest_of_several_damages_is_the_refusal() {
             }
         };
         let certificate = damage(random, &draft, &argument, &numbers);
-        let needed = calls::work_needed(draft.nodes.len(), &certificate);
+        let netlist = draft.to_bytes();
+        let needed = calls::work_needed(&netlist, &certificate);
         let mut slices = [random.bytes(needed), random.bytes(needed)];
         if numbers.contains(&11) {
             slices[random.below(2)].pop();
         }
         let [first, second] = slices;
-        let answer = compare::check(random, &draft.to_bytes(), &certificate, &first, &second);
+        let answer = compare::check(random, &netlist, &certificate, &first, &second);
         let expected = match numbers.first() {
             Some(smallest) => *smallest,
             None => accepted_number(argument.subject.c),
@@ -246,7 +264,7 @@ fn examples_with_swept_certificates() {
         }
         println!("{}", path.display());
         let netlist = fs::read(&path).expect("the example is there");
-        let nodes = usize::from(netlist[0]) + 256 * usize::from(netlist[1]);
+        let nodes = calls::node_count(&netlist);
         run("example certificates", 30, |_, random| {
             let fault = Fault {
                 node: random.below(nodes) as u16,
@@ -261,27 +279,35 @@ fn examples_with_swept_certificates() {
     }
 }
 
+/// More than a linear walk over the longest certificates takes, and far less
+/// than a quadratic one.
+const LINEAR: Duration = Duration::from_millis(250);
+
 /// The shortest of a few times that the library takes for a call.
 fn time_of(netlist: &[u8], certificate: &[u8], answer: u64) -> Duration {
-    let mut slices = [vec![0; 100], vec![0; 100]];
+    let needed = calls::work_needed(netlist, certificate);
+    let (mut first, mut second) = (vec![0; needed], vec![0; needed]);
     let times = (0..5).map(|_| {
-        let [first, second] = &mut slices;
         let start = Instant::now();
-        assert_eq!(native::check(netlist, certificate, first, second), answer);
-        start.elapsed()
+        let given = native::check(netlist, certificate, &mut first, &mut second);
+        let time = start.elapsed();
+        assert_eq!(given, answer);
+        time
     });
     times.min().expect("there are times")
 }
 
 #[test]
-fn long_runs_take_no_more_than_linear_time() {
+fn a_hundred_thousand_repeated_steps() {
     // An input and two buffers; the steps are right, but for being repeated.
-    let draft = Draft::of(&[(0, &[]), (3, &[0]), (3, &[1])]);
-    let netlist = draft.to_bytes();
-    let mut random = Random::new(3);
-    let fault = a_fault(&mut random, &draft);
-    let mut subject = certificates::subject(&mut random, fault, 3, 1);
-    subject.split = Line { node: 0, frame: 0 };
+    let netlist = Draft::of(&[(0, &[]), (3, &[0]), (3, &[1])]).to_bytes();
+    let (node, site, u) = (0, Site::Whole, 0);
+    let subject = Subject {
+        fault: Fault { node, site, u },
+        c: 0,
+        f: 0,
+        split: Line { node: 0, frame: 0 },
+    };
     let swept = certificates::swept(&netlist, subject);
     for branch in 0..2 {
         let mut argument = swept.clone();
@@ -289,11 +315,34 @@ fn long_runs_take_no_more_than_linear_time() {
         argument.runs[branch] = steps.into_iter().cycle().take(100_000).collect();
         let certificate = argument.to_bytes();
         assert_eq!(certificate.len(), 25 + 700_000 + 14);
-        // A quadratic walk over the steps would take seconds.
         let time = time_of(&netlist, &certificate, 14);
-        assert!(time < Duration::from_millis(250), "{time:?}");
-        let slice = [9; 100];
-        let answer = compare::check(&mut random, &netlist, &certificate, &slice, &slice);
+        assert!(time < LINEAR, "{time:?}");
+        let answer = check_in_just_enough(&mut Random::new(3), &netlist, &certificate);
         assert_eq!(answer, 14);
     }
+}
+
+#[test]
+fn one_of_the_longest_certificates() {
+    // A flip-flop fed by itself, an AND of it twice, a chain and an output:
+    // each line but the split is a step, in both branches.
+    let mut draft = Draft::of(&[(kind::FLIP_FLOP, &[0]), (kind::AND, &[0, 0])]);
+    for node in 2..4_095 {
+        draft.push(kind::NOT, &[node - 1]);
+    }
+    draft.push(kind::OUTPUT, &[4_094]);
+    let netlist = draft.to_bytes();
+    let (node, site, u) = (1, Site::Pin(0), 1);
+    let subject = Subject {
+        fault: Fault { node, site, u },
+        c: 7,
+        f: 7,
+        split: Line { node: 0, frame: 0 },
+    };
+    let certificate = certificates::swept(&netlist, subject).to_bytes();
+    assert_eq!(certificate.len(), 25 + 14 * (4_096 * 15 - 1));
+    let time = time_of(&netlist, &certificate, accepted_number(7));
+    assert!(time < LINEAR, "{time:?}");
+    let answer = check_in_just_enough(&mut Random::new(4), &netlist, &certificate);
+    assert_eq!(answer, accepted_number(7));
 }

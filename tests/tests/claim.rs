@@ -35,7 +35,7 @@ impl Subject {
 
     /// The c with which the library accepts a certificate, if it does.
     fn accepted(&self, certificate: &[u8]) -> Option<u8> {
-        let places = calls::work_needed(self.nodes, certificate);
+        let places = calls::work_needed(&self.netlist, certificate);
         let (mut first, mut second) = (vec![0; places], vec![0; places]);
         let answer = native::check(&self.netlist, certificate, &mut first, &mut second);
         (answer > 16).then(|| {
@@ -131,16 +131,12 @@ fn false_promises(trap: Trap) -> usize {
     let mut broken = 0;
     run("trap", 3_000, |_, random| {
         let subject = Subject::new(random);
-        let Subject {
-            netlist,
-            nodes,
-            fault,
-        } = &subject;
+        let Subject { netlist, fault, .. } = &subject;
         let (b, f) = (random.below(3) as u8, random.below(3) as u8);
         let Some(certificate) = certificates::found(Some(trap), netlist, *fault, b, f) else {
             return;
         };
-        let places = calls::work_needed(*nodes, &certificate);
+        let places = calls::work_needed(netlist, &certificate);
         let (mut first, mut second) = (vec![0; places], vec![0; places]);
         let checked = check_in_trap(Some(trap), netlist, &certificate, &mut first, &mut second);
         let c = certificate[4];

@@ -80,13 +80,19 @@ pub fn resize(random: &mut Random, slice: &mut Vec<u8>) {
     slice.resize(wrong, 0);
 }
 
+/// The node count that a netlist's first bytes write.
+pub fn node_count(netlist: &[u8]) -> usize {
+    usize::from(netlist[0]) + 256 * usize::from(netlist[1])
+}
+
 /// The bytes that a work slice must have for this certificate, as far as the
 /// certificate is long enough to say so and its window not refused.
-pub fn work_needed(nodes: usize, certificate: &[u8]) -> usize {
-    match certificate {
-        [_, _, _, _, c, f, ..] => nodes * (usize::from(*c) + usize::from(*f) + 1).min(15),
-        _ => nodes,
-    }
+pub fn work_needed(netlist: &[u8], certificate: &[u8]) -> usize {
+    let frames = match certificate {
+        [_, _, _, _, c, f, ..] => usize::from(*c) + usize::from(*f) + 1,
+        _ => 1,
+    };
+    node_count(netlist) * frames.min(15)
 }
 
 /// Two work slices with anything in them: mostly long enough, sometimes one of

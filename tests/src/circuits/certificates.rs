@@ -1,6 +1,7 @@
 //! Certificates before they are bytes: found, swept from a given split, or made
 //! of steps that follow, in any order.
 
+use super::calls;
 use crate::model::certificate::{Certificate, Subject, HEAD, STEP};
 use crate::model::finder::{self, Finding, Lent};
 use crate::model::netlist::Netlist;
@@ -42,8 +43,7 @@ impl Argument {
 /// The certificate that the model's finder writes, if it finds one. In a trap
 /// it may be one that is not acceptable.
 pub fn found(trap: Option<Trap>, netlist: &[u8], fault: Fault, b: u8, f: u8) -> Option<Vec<u8>> {
-    let nodes = usize::from(netlist[0]) + 256 * usize::from(netlist[1]);
-    let places = nodes * (usize::from(b) + usize::from(f) + 1);
+    let places = calls::node_count(netlist) * (usize::from(b) + usize::from(f) + 1);
     let mut certificate = vec![0; HEAD + 2 * STEP * places];
     let lent = Lent {
         first: &mut vec![0; places],

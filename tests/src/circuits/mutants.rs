@@ -106,20 +106,13 @@ fn other_pairs(certificate: &[u8]) -> Vec<Vec<u8>> {
             mutants.push(mutant);
         }
     }
-    // The border of the runs moved: whole steps, single bytes, round the end.
-    for by in [
-        7,
-        1,
-        6,
-        u32::MAX,
-        u32::MAX - 6,
-        4_294_967_291,
-        4_294_967_290,
-    ] {
+    // The border of the runs moved: by whole steps, by single bytes, and from a
+    // run without steps round the end of the numbers.
+    for by in [1_i32, 6, 7, -1, -5, -6, -7] {
+        let by = by as u32;
         let mut mutant = certificate.to_vec();
         for (place, by) in [(13, by), (17, by), (21, by.wrapping_neg())] {
-            let moved = number(certificate, place).wrapping_add(by);
-            put(&mut mutant, place, moved);
+            add(&mut mutant, place, by);
         }
         mutants.push(mutant);
     }
@@ -127,31 +120,28 @@ fn other_pairs(certificate: &[u8]) -> Vec<Vec<u8>> {
 }
 
 /// Other lengths of the file, with the pairs as they were and with the last
-/// one following.
+/// one following, and runs that do not end with a whole step.
 fn other_lengths(certificate: &[u8]) -> Vec<Vec<u8>> {
     let mut mutants = Vec::new();
     let length = certificate.len();
-    for wrong in [
-        0,
-        1,
-        8,
-        9,
-        24,
-        25,
-        length - 1,
-        length - 7,
-        length + 1,
-        length + 7,
-    ] {
+    let near = [length - 7, length - 1, length + 1, length + 7];
+    for other in [0, 1, 8, 9, 24, 25].into_iter().chain(near) {
         let mut mutant = certificate.to_vec();
-        mutant.resize(wrong, 0);
+        mutant.resize(other, 0);
         mutants.push(mutant.clone());
-        if wrong >= 25 {
-            let last =
-                number(certificate, 21).wrapping_add((wrong as u32).wrapping_sub(length as u32));
-            put(&mut mutant, 21, last);
+        if other >= 25 {
+            let by = (other as u32).wrapping_sub(length as u32);
+            add(&mut mutant, 21, by);
             mutants.push(mutant);
         }
+    }
+    for more in 1..=7 {
+        let mut mutant = certificate.to_vec();
+        let border = number(certificate, 17) as usize;
+        mutant.splice(border..border, vec![0; more as usize]);
+        add(&mut mutant, 13, more);
+        add(&mut mutant, 17, more);
+        mutants.push(mutant);
     }
     mutants
 }
@@ -264,6 +254,12 @@ fn any_step(random: &mut Random, netlist: &Netlist, frames: usize) -> Step {
 fn number(certificate: &[u8], place: usize) -> u32 {
     let bytes = certificate[place..place + 4].try_into();
     u32::from_le_bytes(bytes.expect("four bytes"))
+}
+
+/// Adds modulo 2^32.
+fn add(certificate: &mut [u8], place: usize, by: u32) {
+    let sum = number(certificate, place).wrapping_add(by);
+    put(certificate, place, sum);
 }
 
 fn put(certificate: &mut [u8], place: usize, number: u32) {

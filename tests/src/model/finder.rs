@@ -192,3 +192,59 @@ fn sweep_once(knowledge: &mut Knowledge, note: &mut impl FnMut(&Step)) -> Swept 
     }
     swept
 }
+
+#[cfg(test)]
+mod tests {
+    use super::*;
+    use crate::model::Site;
+
+    /// An input alone.
+    const INPUT: [u8; 9] = [1, 0, 0, 0, 0, 0, 0, 0, 0];
+
+    /// Finds in slices of these lengths, full of 9; the answer and the slices.
+    fn find_in(fault: Fault, b: u8, f: u8, lengths: [usize; 3]) -> (Finding, [Vec<u8>; 3]) {
+        let mut slices = lengths.map(|length| vec![9; length]);
+        let [first, second, certificate] = &mut slices;
+        let lent = Lent {
+            first,
+            second,
+            certificate,
+        };
+        (find(&INPUT, fault, b, f, lent), slices)
+    }
+
+    fn stuck_at(u: u8) -> Fault {
+        let (node, site) = (0, Site::Whole);
+        Fault { node, site, u }
+    }
+
+    #[test]
+    fn refusals_come_in_their_order_and_alter_nothing() {
+        let refused = |fault, b, f, lengths: [usize; 3]| {
+            let (finding, slices) = find_in(fault, b, f, lengths);
+            assert!(slices.iter().flatten().all(|byte| *byte == 9));
+            finding
+        };
+        assert_eq!(refused(stuck_at(2), 14, 1, [0, 0, 0]), Finding::Refused(9));
+        assert_eq!(refused(stuck_at(0), 14, 1, [0, 0, 0]), Finding::Refused(10));
+        assert_eq!(
+            refused(stuck_at(0), 255, 0, [9, 9, 9]),
+            Finding::Refused(10)
+        );
+        assert_eq!(refused(stuck_at(0), 0, 0, [0, 1, 38]), Finding::Refused(11));
+        assert_eq!(refused(stuck_at(0), 0, 0, [1, 0, 38]), Finding::Refused(11));
+        assert_eq!(refused(stuck_at(0), 0, 0, [1, 1, 38]), Finding::Refused(12));
+    }
+
+    #[test]
+    fn the_widest_window_is_cleared_though_c_is_0() {
+        let (finding, slices) = find_in(stuck_at(1), 14, 0, [16, 17, 25 + 14 * 15]);
+        let (c, length, steps) = (0, 25, 0);
+        assert_eq!(finding, Finding::Found { c, length, steps });
+        for slice in &slices[..2] {
+            assert!(slice[..15].iter().all(|byte| *byte == 0));
+            assert!(slice[15..].iter().all(|byte| *byte == 9));
+        }
+        assert!(slices[2][25..].iter().all(|byte| *byte == 9));
+    }
+}

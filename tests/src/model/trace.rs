@@ -59,10 +59,7 @@ impl Trace<'_> {
         if line.frame == c && self.window.is_faulted_node(line.node) {
             return self.knowledge.value(line) != Some(fault.u);
         }
-        if trap == Some(Trap::KnownValueStops) && self.knowledge.value(line).is_some() {
-            return false;
-        }
-        match record.kind {
+        let touched = match record.kind {
             // Frames below c have no touched pins.
             kind::FLIP_FLOP if line.frame == c => false,
             kind::FLIP_FLOP => {
@@ -72,23 +69,22 @@ impl Trace<'_> {
             kind::AND | kind::NAND => self.passes(line, record, 0),
             kind::OR | kind::NOR => self.passes(line, record, 1),
             _ => self.has_touched_pin(line, record),
-        }
+        };
+        let stopped =
+            || trap == Some(Trap::KnownValueStops) && self.knowledge.value(line).is_some();
+        touched && !stopped()
     }
 
     /// Whether a gate has a touched pin, and no untouched pin has the value
     /// that settles the gate's output.
     fn passes(&self, line: Line, record: Record, settling: u8) -> bool {
-        let mut any_touched = false;
-        for (pin, node) in self.window.netlist.sources(record).enumerate() {
-            let touched = self.is_touched_pin(line, pin, node);
-            let blocks = !touched || self.window.trap == Some(Trap::TouchedPinBlocks);
-            let source = Line { node, ..line };
-            if blocks && self.knowledge.value(source) == Some(settling) {
-                return false;
-            }
-            any_touched |= touched;
-        }
-        any_touched
+        let mut sources = self.window.netlist.sources(record).enumerate();
+        self.has_touched_pin(line, record)
+            && !sources.any(|(pin, node)| {
+                self.knowledge.value(Line { node, ..line }) == Some(settling)
+                    && (!self.is_touched_pin(line, pin, node)
+                        || self.window.trap == Some(Trap::TouchedPinBlocks))
+            })
     }
 
     /// Whether any pin of the node is touched, in the frame of the line.

@@ -161,6 +161,7 @@ impl<'a> Knowledge<'a> {
     }
 
     /// Whether a step's value follows by its relation from what is known.
+    #[inline(always)]
     pub fn follows(&self, step: &Step) -> bool {
         let Some(relation) = self.window.relation(step.relation) else {
             return false;
@@ -208,6 +209,8 @@ impl<'a> Knowledge<'a> {
         self.value(Line { node, frame })
     }
 
+    /// Counts what the pins of a relation read.
+    #[inline(always)]
     fn pins(&self, relation: &Relation) -> Pins {
         let mut pins = Pins {
             count: relation.record.length,
