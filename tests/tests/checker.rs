@@ -112,27 +112,17 @@ fn certificates_altered_in_every_field() {
 }
 
 /// A certificate with every damage of `numbers` done to it, one for each of 8
-/// to 10 and 13 to 15, for this netlist, which has nodes enough.
-fn damage(random: &mut Random, netlist: &Draft, argument: &Argument, numbers: &[u64]) -> Vec<u8> {
+/// to 10, 13 and 14.
+fn damage(random: &mut Random, draft: &Draft, argument: &Argument, numbers: &[u64]) -> Vec<u8> {
     let mut argument = argument.clone();
-    let nodes = netlist.nodes.len();
     if numbers.contains(&14) {
-        let line = Line {
-            node: nodes,
-            frame: 0,
-        };
-        let (value, relation) = (0, Line { node: 0, frame: 0 });
-        let branch = random.below(2);
-        argument.runs[branch].push(Step {
-            line,
-            value,
-            relation,
-        });
+        argument.runs[random.below(2)].push(step_of_no_node(draft));
     }
     if numbers.contains(&13) {
+        let (nodes, frames) = (draft.nodes.len(), argument.subject.frames());
         match random.bit() {
             0 => argument.subject.split.node = random.pick(&[nodes, 4_096, 65_535]),
-            _ => argument.subject.split.frame = random.pick(&[argument.subject.frames(), 15, 255]),
+            _ => argument.subject.split.frame = random.pick(&[frames, 15, 255]),
         }
     }
     if numbers.contains(&10) {
@@ -140,7 +130,7 @@ fn damage(random: &mut Random, netlist: &Draft, argument: &Argument, numbers: &[
             random.pick(&[(15, 0), (0, 15), (14, 1), (255, 0), (255, 255), (128, 128)]);
     }
     if numbers.contains(&9) {
-        let fault = calls::foreign_fault(random, netlist).meaning();
+        let fault = calls::foreign_fault(random, draft).meaning();
         argument.subject.fault = fault.expect("these bytes mean a fault");
     }
     let mut bytes = argument.to_bytes();
@@ -152,6 +142,15 @@ fn damage(random: &mut Random, netlist: &Draft, argument: &Argument, numbers: &[
         }
     }
     bytes
+}
+
+fn step_of_no_node(draft: &Draft) -> Step {
+    let (node, frame) = (draft.nodes.len(), 0);
+    Step {
+        line: Line { node, frame },
+        value: 0,
+        relation: Line { node: 0, frame },
+    }
 }
 
 /// An argument whose branches close, or one of whose branches does not.

@@ -214,6 +214,28 @@ fn a_stuck_pin_of_a_flip_flop_is_stuck_by_its_own_frame() {
 }
 
 #[test]
+fn pins_are_separate_even_with_one_source() {
+    // The AND's pin 0 stuck at u in frame 0, split at the AND there. These
+    // steps tell of the input in frame 0, which closes nothing in frame 1.
+    let check = |u, runs: [&[[u8; 7]]; 2]| {
+        let subject = [1, 0, 0, u, 1, 0, 1, 0, 0];
+        check(&and_twice(), &with_runs(subject, runs))
+    };
+    let input = |value| [0, 0, 0, value, 1, 0, 0];
+    // Stuck at 1: what the AND is, its other pin is.
+    assert_eq!(check(1, [&[input(0)], &[input(1)]]), 15);
+    assert_eq!(check(1, [&[input(1)], &[input(1)]]), 14);
+    assert_eq!(check(1, [&[input(0)], &[input(0)]]), 14);
+    // Stuck at 0: an AND of 0 tells nothing of the other pin, and an AND of 1
+    // cannot be.
+    assert_eq!(check(0, [&[input(0)], &[]]), 14);
+    assert_eq!(check(0, [&[], &[input(1)]]), 15);
+    let contradiction = [1, 0, 0, 0, 1, 0, 0];
+    assert_eq!(check(0, [&[], &[input(1), contradiction]]), 15);
+    assert_eq!(check(0, [&[], &[contradiction, input(1)]]), 14);
+}
+
+#[test]
 fn no_steps_at_all() {
     let found = certificates::found(None, &INPUT, fault(0, 255, 0), 0, 0);
     let certificate = stepless([0, 0, 255, 0, 0, 0, 0, 0, 0]);
