@@ -1,9 +1,11 @@
 //! Times the library against the Rust model on the same calls and prints one
 //! table. Ends with status 1 if the library takes more than the limit.
 
+mod checks;
 mod measure;
 mod work;
 
+use checks::Checks;
 use measure::{compare, Pair};
 use std::process::ExitCode;
 use work::Work;
@@ -14,16 +16,29 @@ const LIMIT: f64 = 2.0;
 /// Node and pin counts; the second are the greatest that a netlist may have.
 const SIZES: [(usize, usize); 2] = [(300, 1_200), (4_096, 16_384)];
 
+/// Steps of a certificate, about.
+const STEPS: [usize; 2] = [1_000, 10_000];
+
 struct Row {
     part: &'static str,
     circuits: usize,
     nodes: usize,
     pins: usize,
+    /// None where no certificate is checked.
+    steps: Option<usize>,
     times: Pair,
 }
 
+impl Row {
+    /// What the time of a call is shared out among.
+    fn items(&self) -> usize {
+        self.steps.unwrap_or(self.nodes + self.pins)
+    }
+}
+
 fn main() -> ExitCode {
-    let rows: Vec<Row> = SIZES.into_iter().flat_map(measure_size).collect();
+    let mut rows: Vec<Row> = SIZES.into_iter().flat_map(measure_size).collect();
+    rows.extend(STEPS.map(measure_checks));
     print_heading();
     rows.iter().for_each(print_row);
     if rows.iter().any(|row| row.times.ratio() > LIMIT) {
@@ -54,8 +69,29 @@ fn measure_size((nodes, pins): (usize, usize)) -> [Row; 2] {
         circuits,
         nodes,
         pins,
+        steps: None,
         times,
     })
+}
+
+/// Times the checker on certificates of about so many steps.
+fn measure_checks(about_steps: usize) -> Row {
+    let (mut model, mut library) = (Checks::new(about_steps), Checks::new(about_steps));
+    let circuits = model.certificate_count();
+    let times = compare(
+        || library.check_with_library(),
+        || model.check_with_model(),
+        circuits,
+    );
+    assert!(library == model, "library and model left different slices");
+    Row {
+        part: "check",
+        circuits,
+        nodes: model.nodes,
+        pins: model.pins,
+        steps: Some(model.steps),
+        times,
+    }
 }
 
 fn print_heading() {
@@ -65,20 +101,22 @@ fn print_heading() {
         measure::REPETITIONS
     );
     println!("repetitions, in which library and model take turns. The slices are not cleared");
-    println!("first: a step starts from what the step before left in them.");
+    println!("first: a step starts from what the step before left in them. Certificates are");
+    println!("of 15 frames and accepted; pins and steps are those of a circuit on average.");
     println!();
     println!(
-        "{:<9} {:>8} {:>6} {:>6} {:>11} {:>9} {:>6}  {:>19}",
+        "{:<9} {:>8} {:>6} {:>6} {:>6} {:>11} {:>9} {:>6}  {:>19}",
         "part",
         "circuits",
         "nodes",
         "pins",
+        "steps",
         "library us",
         "model us",
         "ratio",
         "ns per node and pin"
     );
-    println!("{:>72} {:>9}", "library", "model");
+    println!("{:>79} {:>9}", "or per step, library", "model");
 }
 
 fn print_row(row: &Row) {
@@ -87,15 +125,17 @@ fn print_row(row: &Row) {
         circuits,
         nodes,
         pins,
+        steps,
         times,
     } = row;
-    let size = (nodes + pins) as f64;
+    let steps = steps.map_or("-".to_string(), |steps| steps.to_string());
+    let items = row.items() as f64;
     println!(
-        "{part:<9} {circuits:>8} {nodes:>6} {pins:>6} {:>11.3} {:>9.3} {:>6.2}  {:>9.3} {:>9.3}",
+        "{part:<9} {circuits:>8} {nodes:>6} {pins:>6} {steps:>6} {:>11.3} {:>9.3} {:>6.2}  {:>9.3} {:>9.3}",
         times.library * 1e6,
         times.model * 1e6,
         times.ratio(),
-        times.library * 1e9 / size,
-        times.model * 1e9 / size
+        times.library * 1e9 / items,
+        times.model * 1e9 / items
     );
 }

@@ -44,8 +44,8 @@ impl Drop for FailureNote {
     }
 }
 
-/// How often each answer was met: refusals by their number, sound and done
-/// as 0.
+/// How often each answer was met: refusals by their number, sound, done and
+/// accepted as 0.
 #[derive(Default)]
 pub struct Tally {
     counts: BTreeMap<u64, u64>,
@@ -55,6 +55,11 @@ impl Tally {
     pub fn count(&mut self, answer: u64) {
         let number = if answer > 16 { 0 } else { answer };
         *self.counts.entry(number).or_default() += 1;
+    }
+
+    /// How many answers were counted.
+    pub fn total(&self) -> u64 {
+        self.counts.values().sum()
     }
 
     /// Fails unless every one of these answers was met often enough: makers of

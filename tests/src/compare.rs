@@ -1,6 +1,7 @@
 //! One call given to the library and to the model: the same answer, and the
 //! same bytes in everything that was lent.
 
+use crate::circuits::calls;
 use crate::model;
 use crate::native::{self, FaultBytes};
 use crate::random::Random;
@@ -80,6 +81,56 @@ pub fn simulate(
     assert_eq!(first, model_first, "seen values: {}", call());
     assert_eq!(second, model_second, "latched values: {}", call());
     (answer, first.slice().to_vec(), second.slice().to_vec())
+}
+
+/// Checks with both, from work slices with this content; gives back the answer.
+/// Netlist and certificate too lie between guard bytes, so that a read beside
+/// them does not go unnoticed for long.
+pub fn check(
+    random: &mut Random,
+    netlist: &[u8],
+    certificate: &[u8],
+    first: &[u8],
+    second: &[u8],
+) -> u64 {
+    let given = [netlist, certificate].map(|bytes| Guarded::new(random, bytes));
+    let lent = [first, second].map(|bytes| Guarded::new(random, bytes));
+    let read = given.clone();
+    let [mut first, mut second] = lent.clone();
+    let answer = native::check(
+        read[0].slice(),
+        read[1].slice(),
+        first.lend(),
+        second.lend(),
+    );
+    let call = || format!("{} for {}", hex(certificate), hex(netlist));
+    assert!(read == given, "what is read was altered: {}", call());
+
+    let [mut model_first, mut model_second] = lent.clone();
+    let expected = model::check(
+        netlist,
+        certificate,
+        model_first.lend(),
+        model_second.lend(),
+    );
+    assert_eq!(answer, native::checked_number(expected), "{}", call());
+    assert_eq!(first, model_first, "first work slice: {}", call());
+    assert_eq!(second, model_second, "second work slice: {}", call());
+    let cleared = match answer {
+        1..=13 => 0,
+        _ => calls::work_needed(netlist, certificate),
+    };
+    for (after, before) in [(first, &lent[0]), (second, &lent[1])] {
+        assert_cleared(&after, before, cleared, answer);
+    }
+    answer
+}
+
+/// The first `cleared` lent bytes are 0, all others are what they were.
+fn assert_cleared(after: &Guarded, before: &Guarded, cleared: usize, answer: u64) {
+    let mut expected = before.clone();
+    expected.lend()[..cleared].fill(0);
+    assert_eq!(after, &expected, "a work slice after answer {answer}");
 }
 
 /// The bytes in hex, cut where they would fill the screen.

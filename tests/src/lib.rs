@@ -3,10 +3,12 @@
 //! [`model`] is that reading, written without a look at the library's code.
 //! [`native`] is the library, reached through its C interface. [`compare`]
 //! gives both the same call and looks at every answer and every lent byte;
-//! [`circuits`] and [`random`] make the calls, [`cases`] counts them.
+//! [`circuits`] and [`random`] make the calls, [`cases`] counts them. [`claim`]
+//! decides for small circuits what an accepted certificate promises.
 
 pub mod cases;
 pub mod circuits;
+pub mod claim;
 pub mod compare;
 pub mod model;
 pub mod native;

@@ -1,6 +1,6 @@
 //! The kit's library through its C interface.
 
-use crate::model::{Fault, Reading, Site, Stepped};
+use crate::model::{Checked, Fault, Reading, Site, Stepped};
 
 extern "C" {
     fn leverpeach_read(netlist_ptr: *const u8, netlist_len: usize) -> u64;
@@ -12,6 +12,17 @@ extern "C" {
         node: u16,
         site: u8,
         u: u8,
+        first_ptr: *mut u8,
+        first_len: usize,
+        second_ptr: *mut u8,
+        second_len: usize,
+    ) -> u64;
+
+    fn leverpeach_check(
+        netlist_ptr: *const u8,
+        netlist_len: usize,
+        certificate_ptr: *const u8,
+        certificate_len: usize,
         first_ptr: *mut u8,
         first_len: usize,
         second_ptr: *mut u8,
@@ -83,6 +94,24 @@ pub fn simulate(netlist: &[u8], fault: FaultBytes, first: &mut [u8], second: &mu
     }
 }
 
+/// The library's checker.
+pub fn check(netlist: &[u8], certificate: &[u8], first: &mut [u8], second: &mut [u8]) -> u64 {
+    // SAFETY: pointers and lengths are those of live slices; the two that the
+    // library writes are lent mutably and lie apart.
+    unsafe {
+        leverpeach_check(
+            netlist.as_ptr(),
+            netlist.len(),
+            certificate.as_ptr(),
+            certificate.len(),
+            first.as_mut_ptr(),
+            first.len(),
+            second.as_mut_ptr(),
+            second.len(),
+        )
+    }
+}
+
 /// The number by which the C interface gives a reader's answer.
 pub fn reading_number(reading: Reading) -> u64 {
     match reading {
@@ -102,4 +131,17 @@ pub fn stepped_number(stepped: Stepped) -> u64 {
         Stepped::Done => 0,
         Stepped::Refused(number) => number.into(),
     }
+}
+
+/// The number by which the C interface gives a checker's answer.
+pub fn checked_number(checked: Checked) -> u64 {
+    match checked {
+        Checked::Accepted(c) => accepted_number(c),
+        Checked::Refused(number) => number.into(),
+    }
+}
+
+/// The number for a certificate accepted with this c.
+pub fn accepted_number(c: u8) -> u64 {
+    (1 << 32) + u64::from(c)
 }

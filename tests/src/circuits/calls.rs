@@ -1,4 +1,4 @@
-//! Faults and slices for calls of the simulator.
+//! Faults and slices for calls of the simulator and the checker.
 
 use super::Draft;
 use crate::model::kind;
@@ -78,4 +78,35 @@ pub fn resize(random: &mut Random, slice: &mut Vec<u8>) {
         _ => random.pick(&[2 * right, right + 256, right + 4_096]),
     };
     slice.resize(wrong, 0);
+}
+
+/// The node count that a netlist's first bytes write.
+pub fn node_count(netlist: &[u8]) -> usize {
+    usize::from(netlist[0]) + 256 * usize::from(netlist[1])
+}
+
+/// The bytes that a work slice must have for this certificate, as far as the
+/// certificate is long enough to say so and its window not refused.
+pub fn work_needed(netlist: &[u8], certificate: &[u8]) -> usize {
+    let frames = match certificate {
+        [_, _, _, _, c, f, ..] => usize::from(*c) + usize::from(*f) + 1,
+        _ => 1,
+    };
+    node_count(netlist) * frames.min(15)
+}
+
+/// Two work slices with anything in them: mostly long enough, sometimes one of
+/// them a byte too short or empty.
+pub fn work_slices(random: &mut Random, needed: usize) -> [Vec<u8>; 2] {
+    let short = random.below(40);
+    [0, 1].map(|slice| {
+        let length = match random.below(4) {
+            _ if short == slice => needed - 1,
+            _ if short == slice + 2 => random.below(needed),
+            0 | 1 => needed,
+            2 => needed + 1,
+            _ => needed + random.below(50),
+        };
+        random.bytes(length)
+    })
 }

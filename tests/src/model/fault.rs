@@ -17,6 +17,14 @@ impl Site {
             pin => Site::Pin(pin),
         }
     }
+
+    /// The byte that writes the site.
+    pub fn to_byte(self) -> u8 {
+        match self {
+            Site::Whole => 255,
+            Site::Pin(pin) => pin,
+        }
+    }
 }
 
 /// A fault: a node, a site and the stuck value.

@@ -1,0 +1,159 @@
+//! What the library accepts is true: for every accepted certificate of a small
+//! circuit the promise is decided exactly, over all clock lists.
+
+use leverpeach_tests::cases::run;
+use leverpeach_tests::circuits::{calls, certificates, mutants, small};
+use leverpeach_tests::claim::Claim;
+use leverpeach_tests::model::certificate::Certificate;
+use leverpeach_tests::model::checker::check_in_trap;
+use leverpeach_tests::model::{Checked, Fault, Trap};
+use leverpeach_tests::native::{self, accepted_number};
+use leverpeach_tests::random::Random;
+use std::collections::BTreeMap;
+
+/// The widest window of these certificates.
+const MOST_FRAMES: usize = 5;
+
+/// A small circuit and one of its faults.
+#[derive(Debug)]
+struct Subject {
+    netlist: Vec<u8>,
+    nodes: usize,
+    fault: Fault,
+}
+
+impl Subject {
+    fn new(random: &mut Random) -> Self {
+        let draft = small::any(random);
+        let fault = calls::fault(random, &draft).meaning();
+        Subject {
+            netlist: draft.to_bytes(),
+            nodes: draft.nodes.len(),
+            fault: fault.expect("these bytes mean a fault"),
+        }
+    }
+
+    /// The c with which the library accepts a certificate, if it does.
+    fn accepted(&self, certificate: &[u8]) -> Option<u8> {
+        let places = calls::work_needed(&self.netlist, certificate);
+        let (mut first, mut second) = (vec![0; places], vec![0; places]);
+        let answer = native::check(&self.netlist, certificate, &mut first, &mut second);
+        (answer > 16).then(|| {
+            let c = (answer & 0xFF) as u8;
+            assert_eq!(answer, accepted_number(c));
+            c
+        })
+    }
+}
+
+/// Claims by the fault that a certificate names, each put into tables once.
+struct Claims<'a> {
+    netlist: &'a [u8],
+    by_fault: BTreeMap<(u16, u8, u8), Claim>,
+}
+
+impl<'a> Claims<'a> {
+    fn of(netlist: &'a [u8]) -> Self {
+        let by_fault = BTreeMap::new();
+        Claims { netlist, by_fault }
+    }
+
+    /// Whether the promise holds for the fault that the certificate names.
+    fn hold(&mut self, certificate: &[u8], c: u8) -> bool {
+        let certificate = Certificate::split(certificate).expect("the pairs are right");
+        let fault = certificate.subject.fault;
+        let name = (fault.node, fault.site.to_byte(), fault.u);
+        let claim = self.by_fault.entry(name);
+        let netlist = self.netlist;
+        claim.or_insert_with(|| Claim::new(netlist, fault)).holds(c)
+    }
+}
+
+/// Certificates for a fault: walks from splits all over the window, and what
+/// the finder finds, fallen into a trap or not.
+fn certificates_for(random: &mut Random, subject: &Subject) -> Vec<Vec<u8>> {
+    let Subject {
+        netlist,
+        nodes,
+        fault,
+    } = subject;
+    let walks = (0..8).map(|_| {
+        let subject = certificates::subject(random, *fault, *nodes, MOST_FRAMES);
+        let most = random.pick(&[1, 4, 1_000, 1_000]);
+        certificates::walked(random, netlist, subject, most).to_bytes()
+    });
+    let mut certificates: Vec<Vec<u8>> = walks.collect();
+    let (b, f) = (random.below(3) as u8, random.below(3) as u8);
+    let traps = Trap::ALL.into_iter().map(Some).chain([None]);
+    certificates.extend(traps.filter_map(|trap| certificates::found(trap, netlist, *fault, b, f)));
+    certificates
+}
+
+#[test]
+fn what_the_library_accepts_is_true() {
+    let mut accepted = 0;
+    run("claims", 15_000, |_, random| {
+        let subject = Subject::new(random);
+        let mut claims = Claims::of(&subject.netlist);
+        for certificate in certificates_for(random, &subject) {
+            if let Some(c) = subject.accepted(&certificate) {
+                assert!(claims.hold(&certificate, c), "{certificate:?}, {subject:?}");
+                accepted += 1;
+            }
+        }
+    });
+    println!("{accepted} accepted");
+    assert!(accepted >= 20_000, "only {accepted} accepted");
+}
+
+#[test]
+fn what_the_library_accepts_of_altered_certificates_is_true() {
+    let mut accepted = 0;
+    run("altered claims", 300, |_, random| {
+        let subject = Subject::new(random);
+        let mut claims = Claims::of(&subject.netlist);
+        let certificates = certificates_for(random, &subject);
+        let certificate = &certificates[random.below(certificates.len())];
+        for mutant in mutants::all(random, &subject.netlist, certificate) {
+            if let Some(c) = subject.accepted(&mutant) {
+                assert!(claims.hold(&mutant, c), "{mutant:?}, {subject:?}");
+                accepted += 1;
+            }
+        }
+    });
+    println!("{accepted} accepted");
+    assert!(accepted >= 1_000, "only {accepted} accepted");
+}
+
+/// How often a checker that fell into this trap accepts a certificate whose
+/// promise does not hold. The library never accepts such a one.
+fn false_promises(trap: Trap) -> usize {
+    let mut broken = 0;
+    run("trap", 3_000, |_, random| {
+        let subject = Subject::new(random);
+        let Subject { netlist, fault, .. } = &subject;
+        let (b, f) = (random.below(3) as u8, random.below(3) as u8);
+        let Some(certificate) = certificates::found(Some(trap), netlist, *fault, b, f) else {
+            return;
+        };
+        let places = calls::work_needed(netlist, &certificate);
+        let (mut first, mut second) = (vec![0; places], vec![0; places]);
+        let checked = check_in_trap(Some(trap), netlist, &certificate, &mut first, &mut second);
+        let c = certificate[4];
+        assert_eq!(checked, Checked::Accepted(c));
+        if !Claims::of(netlist).hold(&certificate, c) {
+            broken += 1;
+            assert_eq!(subject.accepted(&certificate), None, "{subject:?}");
+        }
+    });
+    println!("{trap:?}: {broken} false promises");
+    broken
+}
+
+#[test]
+fn every_trap_makes_promises_that_are_false() {
+    for trap in Trap::ALL {
+        let broken = false_promises(trap);
+        assert!(broken >= 20, "{trap:?} was caught only {broken} times");
+    }
+}
