@@ -1,17 +1,22 @@
 -- Laws of marks as the code works them out: pin by pin from the last one on, and test by test.
-use mathlib.Core.Bool.{Bool, cond, false, not, true}
-use mathlib.Core.List.{List, [], _∷_}
+use mathlib.Core.Bool.{Bool, _&&_, _||_, cond, false, not, true}
+use mathlib.Core.List.{List, [], _++_, _∷_}
 use mathlib.Core.Path.{_∙_, _≡_, ap, refl, subst, sym}
-use Prim.Native.Nat.{_-_, _<_, _≤_, suc, zero, ℕ}
+use Prim.Native.Nat.{_+_, _-_, _<_, _≤_, suc, zero, ℕ}
 use native.Mathlib.Nat.{le-of-suc-le-suc, not-suc-le-zero}
+use native.Mathlib.Numerals.{add-one}
 use native.Mathlib.Omega.{arith}
-use lib.ListN.{drop, drop-of-length-le, length}
-use lib.Seq.{drop-cons}
-use Rattle.checker.specs.Trace.{gateMark, mark, nodeMark, pinMark, siteMark, someMark, untouchedValue}
+use lib.Dec.{eqb}
+use lib.ListN.{drop, drop-of-length-le, length, take}
+use lib.Seq.{drop-cons, take-at}
+use borrow.Author.Tests.{ne-eqb}
+use Rattle.checker.proofs.Agreement.{markNext}
+use Rattle.checker.specs.Trace.{effectDies, gateMark, latchedMark, latchedMarks, latchedUntouched, mark, marksList, nodeMark, outputUntouched, pinMark, siteMark, someMark, untouchedValue}
+use Rattle.circuit.proofs.ListLaws.{build-rest, build-same, length-build, take-inside}
 use Rattle.circuit.proofs.ValueLaws.{known-low, unknown-high}
-use Rattle.circuit.specs.Fault.{StuckLines}
-use Rattle.circuit.specs.Kind.{gate, isFlipFlop, isGiven}
-use Rattle.circuit.specs.Lists.{at, indexed}
+use Rattle.circuit.specs.Fault.{StuckLines, noneStuck}
+use Rattle.circuit.specs.Kind.{gate, isFlipFlop, isGiven, isOutput}
+use Rattle.circuit.specs.Lists.{at, build, every, indexed}
 use Rattle.circuit.specs.Netlist.{Net}
 use Rattle.circuit.specs.Value.{isUnknown}
 
@@ -73,3 +78,63 @@ module _ (net : Net) (D : StuckLines) (v ms : ℕ → ℕ) (n : ℕ) where
     pub mark-gate : isGiven (net .kind n) ≡ false → siteMark (D .node n) (v n) (gateMark net D v ms n) ≡ nodeMark net D v latched ms n
     unfolding nodeMark
     mark-gate e = ap (siteMark (D .node n) (v n)) (sym (λ i. cond (e i) (cond (isFlipFlop (net .kind n)) (latched n) 0) (gateMark net D v ms n)))
+
+    -- what was latched counts at the node's own place alone
+    pub mark-latched : (other : ℕ → ℕ) → latched n ≡ other n → nodeMark net D v latched ms n ≡ nodeMark net D v other ms n
+    unfolding nodeMark
+    mark-latched other e = ap (λ (x : ℕ). siteMark (D .node n) (v n) (cond (isGiven (net .kind n)) (cond (isFlipFlop (net .kind n)) x 0) (gateMark net D v ms n))) e
+
+  pub not-latched : (net .kind n ≡ 2 → ⊥) → 0 ≡ latchedMark net D v ms n
+  unfolding latchedMark
+  not-latched d = rw (ne-eqb (net .kind n) 2 d)
+
+  pub latched-by : (b : Bool) → net .kind n ≡ 2 → someMark pinMarks ≡ b → mark b ≡ latchedMark net D v ms n
+  unfolding latchedMark
+  latched-by b e f = rw e (sym (ap mark f))
+
+module _ (net : Net) (D : StuckLines) (v : ℕ → ℕ) where
+  pub marks-latched : (l m : ℕ → ℕ) → ((n : ℕ) → n < net .size → l n ≡ m n) → marksList net D v l ≡ marksList net D v m
+  unfolding marksList
+  marks-latched l m h = build-same (markNext net D v l) (markNext net D v m) (net .size) (λ k n p. mark-latched net D v (at k) n l m (h n p))
+
+  pub length-marks : (l : ℕ → ℕ) → length (marksList net D v l) ≡ net .size
+  unfolding marksList
+  length-marks l = length-build (markNext net D v l) (net .size)
+
+  -- A loop that writes the marks over what was latched, by rising node, e being the slice when node i is reached: the next one of the list.
+  pub mark-turn : (d : List ℕ) (i : ℕ) → i < length d
+      → nodeMark net D v (at (build (markNext net D v (at d)) i ++ drop i d)) (at (take i (build (markNext net D v (at d)) i ++ drop i d))) i
+      ≡ markNext net D v (at d) (build (markNext net D v (at d)) i) i
+  mark-turn d i h =
+      let f = markNext net D v (at d) in
+      let e = build f i ++ drop i d in
+      ap (λ (l : List ℕ). nodeMark net D v (at e) (at l) i) (take-at (build f i) (drop i d) i (length-build f i))
+      ∙ mark-latched net D v (at (build f i)) i (at e) (at d) (build-rest f d i h)
+
+-- an output is untouched, read from a slice whose first n bytes are the marks
+pub output-read : (net : Net) (l : List ℕ) (n i : ℕ) → i < n → outputUntouched net l i ≡ outputUntouched net (take n l) i
+output-read net l n i h = ap (λ (x : ℕ). not (isOutput (net .kind i)) || eqb x 0) (take-inside l n i h)
+
+-- one frame of the trace, and the last one
+module _ (net : Net) (kn : ℕ → ℕ → ℕ) (t : ℕ) (D : StuckLines) (l : List ℕ) where
+  abbrev pub frameMarks : List ℕ
+  frameMarks = marksList net D (λ n. kn n t) (at l)
+
+  abbrev pub nextMarks : List ℕ
+  nextMarks = latchedMarks net D (λ n. kn n t) (at frameMarks)
+
+  pub dies-open : (r : ℕ) → 0 < r → every (outputUntouched net frameMarks) (net .size) ≡ false → effectDies net kn r t D l ≡ false
+  unfolding effectDies
+  dies-open zero h e = absurd (omega arith)
+  dies-open (suc r) h e = ap (λ (b : Bool). b && effectDies net kn r (suc t) noneStuck nextMarks) e
+
+  pub dies-on : (r : ℕ) → 0 < r → every (outputUntouched net frameMarks) (net .size) ≡ true → effectDies net kn r t D l ≡ effectDies net kn (r - 1) (t + 1) noneStuck nextMarks
+  unfolding effectDies
+  dies-on zero h e = absurd (omega arith)
+  dies-on (suc r) h e =
+      let q : r ≡ suc r - 1 = omega arith in
+      ap (λ (b : Bool). b && effectDies net kn r (suc t) noneStuck nextMarks) e ∙ (λ i. effectDies net kn (q i) (sym (add-one t) i) noneStuck nextMarks)
+
+  pub dies-last : (a b : Bool) → a ≡ every (outputUntouched net frameMarks) (net .size) → b ≡ every (latchedUntouched nextMarks) (net .size) → (a && b) ≡ effectDies net kn 0 t D l
+  unfolding effectDies
+  dies-last a b e f = λ i. e i && f i

@@ -34,6 +34,10 @@ relation-later k (suc t) h = refl
 pub frame-known : (l : List ℕ) (N t : ℕ) → at (drop (t * N + 0) l) ≡ (λ (m : ℕ). knownIn l N m t)
 frame-known l N t = λ i m. (getD-drop (t * N + 0) l m 0 ∙ ap (λ (k : ℕ). at l (k + m)) (add-zero (t * N))) i
 
+-- the same, where the slice and the number of nodes are known by equations
+pub frame-values : (l values : List ℕ) (N M t : ℕ) → values ≡ drop (t * N + 0) l → N ≡ M → at values ≡ (λ (m : ℕ). knownIn l M m t)
+frame-values l values N M t e h = ap at e ∙ frame-known l N t ∙ (λ i m. knownIn l (h i) m t)
+
 -- a pin's conclusion, test by test
 module _ (net : Net) (s : StuckLines) (v : ℕ → ℕ) (n o k : ℕ) where
   -- the controlling value, which is tried first
@@ -67,7 +71,7 @@ module _ (net : Net) (s : StuckLines) (v : ℕ → ℕ) (n o k : ℕ) where
 module _ (net : Net) (S : ℕ → StuckLines) (l : List ℕ) (n t p N : ℕ) (lines : StuckLines) (values : List ℕ) (hp : p ≡ pinFrame (net .kind n) t) (hN : N ≡ net .size) (hs : lines ≡ S p)
     (hv : values ≡ drop (p * N + 0) l) where
   known-there : at values ≡ (λ (m : ℕ). knownIn l (net .size) m (pinFrame (net .kind n) t))
-  known-there = ap at hv ∙ frame-known l N p ∙ (λ i m. knownIn l (hN i) m (hp i))
+  known-there = frame-values l values N (net .size) p hv hN ∙ (λ i m. knownIn l (net .size) m (hp i))
 
   stuck-there : lines ≡ S (pinFrame (net .kind n) t)
   stuck-there = hs ∙ ap S hp

@@ -102,7 +102,7 @@ pub fn step_follows(netlist: &[u8], fault: Fault, c: u8, w: u16, known: &[u8], s
     if !in_force(netlist, fault, c, via, during) {
         return false;
     }
-    if circuit::byte_at(known, place_of(n, node, frame)) == value {
+    if circuit::byte_at(known, place_of(n, node, frame as u16)) == value {
         return false;
     }
     some_line_gives(netlist, fault, c, known, step)

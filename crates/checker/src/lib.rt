@@ -11,4 +11,5 @@ pub use follow::step_follows;
 pub use relation::conclude;
 pub use relation::in_force;
 pub use step::Step;
+pub use trace::effect_dies;
 pub use window::place_of;

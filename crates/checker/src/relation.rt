@@ -113,7 +113,7 @@ pub fn conclude(
     let n = circuit::node_count(netlist);
     let pins_at = pin_frame(circuit::kind_of(netlist, node), frame);
     let circuit = circuit_in(fault, c, pins_at);
-    let values = circuit::tail(known, place_of(n, 0, pins_at));
+    let values = circuit::tail(known, place_of(n, 0, pins_at as u16));
     if line == 0 {
         let value = circuit::gate_value(netlist, circuit, values, node);
         return Step {
@@ -124,7 +124,7 @@ pub fn conclude(
             during: frame,
         };
     }
-    let output = circuit::byte_at(known, place_of(n, node, frame));
+    let output = circuit::byte_at(known, place_of(n, node, frame as u16));
     let source = pin_source(netlist, node, line - 1);
     let value = pin_conclusion(netlist, circuit, values, node, output, line - 1);
     Step {

@@ -130,3 +130,155 @@ fn mark_nodes(netlist: &[u8], n: u16, circuit: Circuit, values: &[u8], marks: &m
         node += 1;
     }
 }
+
+// The mark of a flip-flop in the next frame: whether its pin is touched in this one. No other node has one.
+fn latched_mark(netlist: &[u8], n: u16, circuit: Circuit, values: &[u8], marks: &[u8], node: u16) -> u8
+    ensures { λ r. ⌜ r ≡ latchedMark (netOf (now (netlist .entry))) (linesIn circuit) (at (now (values .entry))) (at (take n (now (marks .entry)))) node ⌝ }
+{
+    if circuit::kind_of(netlist, node) != FLIP_FLOP {
+        return 0;
+    }
+    if some_pin_touched(netlist, circuit, values, marks, n, node) { 1 } else { 0 }
+}
+
+// Copies the second n bytes over the first.
+fn move_down(n: u16, marks: &mut [u8])
+    requires { ⌜ n + n ≤ length (now marks) ⌝ }
+    ensures { λ _. ⌜ take n (now (marks .exit)) ≡ take n (drop n (now (marks .entry))) ⌝ }
+{
+    let mut node: u16 = 0;
+    while node < n {
+        let value = circuit::byte_at(marks, n as usize + node as usize);
+        circuit::store(marks, node as usize, value);
+        node += 1;
+    }
+}
+
+// Puts the marks of the flip-flops in the next frame into the first n bytes. They are worked out in
+// the second n bytes, since a flip-flop's source may be a flip-flop.
+fn latch_marks(netlist: &[u8], n: u16, circuit: Circuit, values: &[u8], marks: &mut [u8])
+    requires { ⌜ n ≡ netOf (now netlist) .size ⌝ }
+    requires { ⌜ n + n ≤ length (now marks) ⌝ }
+    ensures { λ _. ⌜ take n (now (marks .exit)) ≡ latchedMarks (netOf (now (netlist .entry))) (linesIn circuit) (at (now (values .entry))) (at (take n (now (marks .entry)))) ⌝ }
+{
+    let mut node: u16 = 0;
+    while node < n {
+        let value = latched_mark(netlist, n, circuit, values, marks, node);
+        circuit::store(marks, n as usize + node as usize, value);
+        node += 1;
+    }
+    move_down(n, marks);
+}
+
+fn output_untouched(netlist: &[u8], marks: &[u8], node: u16) -> bool
+    ensures { λ r. ⌜ r ≡ outputUntouched (netOf (now (netlist .entry))) (now (marks .entry)) node ⌝ }
+{
+    circuit::kind_of(netlist, node) != OUTPUT || circuit::byte_at(marks, node as usize) == 0
+}
+
+fn outputs_untouched(netlist: &[u8], n: u16, marks: &[u8]) -> bool
+    ensures { λ r. ⌜ r ≡ every (outputUntouched (netOf (now (netlist .entry))) (take n (now (marks .entry)))) n ⌝ }
+{
+    let mut node: u16 = 0;
+    while node < n {
+        if !output_untouched(netlist, marks, node) {
+            return false;
+        }
+        node += 1;
+    }
+    true
+}
+
+fn pins_untouched(netlist: &[u8], n: u16, circuit: Circuit, values: &[u8], marks: &[u8]) -> bool
+    requires { ⌜ n ≡ netOf (now netlist) .size ⌝ }
+    ensures { λ r. ⌜ r ≡ every (latchedUntouched (latchedMarks (netOf (now (netlist .entry))) (linesIn circuit) (at (now (values .entry))) (at (take n (now (marks .entry)))))) n ⌝ }
+{
+    let mut node: u16 = 0;
+    while node < n {
+        if latched_mark(netlist, n, circuit, values, marks, node) != 0 {
+            return false;
+        }
+        node += 1;
+    }
+    true
+}
+
+// Puts the marks of a frame into the first n bytes, which hold those of its flip-flops, and says
+// whether no output is touched.
+fn mark_frame(netlist: &[u8], n: u16, circuit: Circuit, known: &[u8], frame: u16, marks: &mut [u8]) -> bool
+    requires { ⌜ n ≡ netOf (now netlist) .size ⌝ }
+    requires { ⌜ n ≤ length (now marks) ⌝ }
+    ensures { λ _. ⌜ take n (now (marks .exit)) ≡ marksList (netOf (now (netlist .entry))) (linesIn circuit) (λ m. knownIn (now (known .entry)) (netOf (now (netlist .entry)) .size) m frame) (at (take n (now (marks .entry)))) ⌝ }
+    ensures { λ r. ⌜ r ≡ every (outputUntouched (netOf (now (netlist .entry))) (marksList (netOf (now (netlist .entry))) (linesIn circuit) (λ m. knownIn (now (known .entry)) (netOf (now (netlist .entry)) .size) m frame) (at (take n (now (marks .entry)))))) (netOf (now (netlist .entry)) .size) ⌝ }
+{
+    let values = circuit::tail(known, place_of(n, 0, frame));
+    mark_nodes(netlist, n, circuit, values, marks);
+    outputs_untouched(netlist, n, marks)
+}
+
+// Puts the marks of the flip-flops in the next frame into the first n bytes, which hold those of this frame.
+fn latch_frame(netlist: &[u8], n: u16, circuit: Circuit, known: &[u8], frame: u16, marks: &mut [u8])
+    requires { ⌜ n ≡ netOf (now netlist) .size ⌝ }
+    requires { ⌜ n + n ≤ length (now marks) ⌝ }
+    ensures { λ _. ⌜ take n (now (marks .exit)) ≡ latchedMarks (netOf (now (netlist .entry))) (linesIn circuit) (λ m. knownIn (now (known .entry)) (netOf (now (netlist .entry)) .size) m frame) (at (take n (now (marks .entry)))) ⌝ }
+{
+    let values = circuit::tail(known, place_of(n, 0, frame));
+    latch_marks(netlist, n, circuit, values, marks);
+}
+
+// Whether no flip-flop's pin is touched in a frame, whose marks the first n bytes hold.
+fn pins_die(netlist: &[u8], n: u16, circuit: Circuit, known: &[u8], frame: u16, marks: &[u8]) -> bool
+    requires { ⌜ n ≡ netOf (now netlist) .size ⌝ }
+    ensures { λ r. ⌜ r ≡ every (latchedUntouched (latchedMarks (netOf (now (netlist .entry))) (linesIn circuit) (λ m. knownIn (now (known .entry)) (netOf (now (netlist .entry)) .size) m frame) (at (take n (now (marks .entry)))))) (netOf (now (netlist .entry)) .size) ⌝ }
+{
+    let values = circuit::tail(known, place_of(n, 0, frame));
+    pins_untouched(netlist, n, circuit, values, marks)
+}
+
+// Whether the effect dies, where the first n bytes hold the marks of the flip-flops at frame c.
+fn dies_from(netlist: &[u8], n: u16, fault: Fault, c: u8, f: u8, known: &[u8], marks: &mut [u8]) -> bool
+    requires { ⌜ n ≡ netOf (now netlist) .size ⌝ }
+    requires { ⌜ n * (f + 1) ≤ length (now marks) ⌝ }
+    ensures { λ r. ⌜ r ≡ effectDies (netOf (now (netlist .entry))) (knownIn (now (known .entry)) (netOf (now (netlist .entry)) .size)) f c (linesOf fault) (take n (now (marks .entry))) ⌝ }
+{
+    let mut circuit = Circuit::Faulty(fault);
+    let mut frame = c as u16;
+    let mut left = f;
+    while 0 < left {
+        if !mark_frame(netlist, n, circuit, known, frame, marks) {
+            return false;
+        }
+        latch_frame(netlist, n, circuit, known, frame, marks);
+        circuit = Circuit::Good;
+        frame += 1;
+        left -= 1;
+    }
+    mark_frame(netlist, n, circuit, known, frame, marks) && pins_die(netlist, n, circuit, known, frame, marks)
+}
+
+// The same from the fault frame on, where no flip-flop is touched yet. The marks are cleared afterwards.
+fn trace_window(netlist: &[u8], n: u16, fault: Fault, c: u8, f: u8, known: &[u8], marks: &mut [u8]) -> bool
+    requires { ⌜ n ≡ netOf (now netlist) .size ⌝ }
+    requires { ⌜ n * (f + 1) ≡ length (now marks) ⌝ }
+    ensures { λ r. ⌜ traced r (now (marks .exit)) ≡ traced (effectDies (netOf (now (netlist .entry))) (knownIn (now (known .entry)) (netOf (now (netlist .entry)) .size)) f c (linesOf fault) []) (replicate (length (now (marks .entry))) 0) ⌝ }
+{
+    circuit::fill(marks, 0);
+    let dies = dies_from(netlist, n, fault, c, f, known, marks);
+    circuit::fill(marks, 0);
+    dies
+}
+
+// Whether the fault's effect dies: no output is touched from frame c on, and no flip-flop's pin in
+// the last frame, c + f. What is known lies in bytes, frame by frame, one for each node. The marks
+// take as many bytes as there are nodes and frames from c on; a shorter slice stays as it is, and
+// nothing is said to die.
+pub fn effect_dies(netlist: &[u8], fault: Fault, c: u8, f: u8, known: &[u8], marks: &mut [u8]) -> bool
+    ensures { λ r. ⌜ traced r (now (marks .exit)) ≡ tracing (netOf (now (netlist .entry))) (linesOf fault) c f (knownIn (now (known .entry)) (netOf (now (netlist .entry)) .size)) (now (marks .entry)) ⌝ }
+{
+    let n = circuit::node_count(netlist);
+    let size = n as usize * (f as usize + 1);
+    if marks.len() < size {
+        return false;
+    }
+    trace_window(netlist, n, fault, c, f, known, &mut marks[..size])
+}

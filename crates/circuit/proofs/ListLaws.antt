@@ -8,8 +8,8 @@ use native.Mathlib.Decide.{decLt, le-ind}
 use native.Mathlib.Nat.{add-suc, add-zero, eq-or-lt-of-le, le-of-suc-le-suc, min-le-left, not-suc-le-zero, suc-add}
 use native.Mathlib.Numerals.{add-one}
 use native.Mathlib.Omega.{arith}
-use lib.ListN.{List·getD-append, List·getD-eq-default, drop, drop-of-length-le, getD, length, length-append, length-take, replicate, set, take}
-use lib.Seq.{append-snoc, drop-cons, getD-at, getD-take, set-at}
+use lib.ListN.{List·getD-append, List·getD-eq-default, drop, drop-of-length-le, getD, length, length-append, length-drop, length-take, replicate, set, take}
+use lib.Seq.{append-snoc, drop-cons, ext-getD, getD-at, getD-drop, getD-set-other, getD-set-same, getD-take, length-take-le, set-at, take-all}
 use Rattle.circuit.proofs.BoolLaws.{and-left, and-right}
 use Rattle.circuit.specs.Lists.{any, at, build, every, indexed, table}
 
@@ -189,3 +189,27 @@ list-of-two P h [] e = absurd (omega arith)
 list-of-two P h (a ∷ []) e = absurd (omega arith)
 list-of-two P h (a ∷ b ∷ []) e = h a b
 list-of-two P h (a ∷ b ∷ c ∷ l) e = absurd (omega arith)
+
+-- A loop that stores f 0, f 1, .. from place b on: the first i of them stand there.
+abbrev pub Filled : (ℕ → ℕ) → ℕ → ℕ → List ℕ → Type 0
+Filled f b i l = (j : ℕ) → j < i → at l (b + j) ≡ f j
+
+pub filled-more : (f : ℕ → ℕ) (b i v : ℕ) (l : List ℕ) → b + i < length l → v ≡ f i → Filled f b i l → Filled f b (i + 1) (set l (b + i) v)
+filled-more f b i v l h e p j q = go (decLt j i)
+  where
+    go : Dec (j < i) → at (set l (b + i) v) (b + j) ≡ f j
+    go (yes r) = let d : (b + j ≡ b + i → ⊥) = omega arith in getD-set-other l (b + i) (b + j) v 0 d ∙ p j r
+    go (no r) = let z : j ≡ i = omega arith in rw z (getD-set-same l (b + i) v 0 h ∙ e)
+
+-- two lists that agree at the first n places start alike
+pub take-same : (n : ℕ) (l m : List ℕ) → n ≤ length l → n ≤ length m → ((j : ℕ) → j < n → at l j ≡ at m j) → take n l ≡ take n m
+take-same n l m h g e =
+    ext-getD 0 (take n l) (take n m) (length-take-le n l h ∙ sym (length-take-le n m g))
+    (λ j q. let r : j < n = omega (arith, length-take-le n l h) in getD-take n l j 0 r ∙ e j r ∙ sym (getD-take n m j 0 r))
+
+-- what such a loop has stored is the list of f's values
+pub filled-table : (f : ℕ → ℕ) (b n : ℕ) (l : List ℕ) → b + n ≤ length l → Filled f b n l → take n (drop b l) ≡ table f n
+filled-table f b n l h p =
+    take-same n (drop b l) (table f n) (simp length-drop (omega arith)) (omega (arith, length-build (λ _. f) n))
+    (λ j q. getD-drop b l j 0 ∙ p j q ∙ sym (getD-build (λ _. f) 0 n q))
+    ∙ take-all n (table f n) (omega (arith, length-build (λ _. f) n))

@@ -53,6 +53,10 @@ returns-2 c = let a = c .before .before .before .before .before .before .before 
     let f = follows-by net S (a .w) kn (a .step) (c .before .before .before .before .node-count .result) (c .before .before .before .before .node-count .ensures) in
     f true false _ _ (sym (c .before .before .before .step-within .ensures) ∙ not-false _ (c .before .before .if1 .left)) (sym (c .before .in-force .ensures) ∙ not-true _ (c .if2 .taken)) refl refl
 
+-- src/follow.rt:105:50
+cast-place-of : tie.Need-cast-place-of
+cast-place-of c = search needs
+
 -- src/follow.rt:105:32
 place-of-requires : tie.Need-place-of-requires
 place-of-requires c κs = search needs
@@ -96,6 +100,7 @@ step-follows-spec =
     returns
     in-force-requires
     returns-2
+    cast-place-of
     place-of-requires
     byte-at-requires
     returns-3

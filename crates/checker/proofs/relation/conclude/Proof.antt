@@ -23,35 +23,39 @@ use Rattle.circuit.proofs.gate_value.Reads as gate-value-reads
 use Rattle.circuit.proofs.kind_of.Reads as kind-of-reads
 use Rattle.circuit.proofs.node_count.Reads as node-count-reads
 
--- src/relation.rt:90:9
+-- src/relation.rt:113:9
 node-count-requires : tie.Need-node-count-requires
 node-count-requires c κs = search needs
 
--- src/relation.rt:91:29
+-- src/relation.rt:114:29
 kind-of-requires : tie.Need-kind-of-requires
 kind-of-requires c κs = search needs
 
--- src/relation.rt:91:9
+-- src/relation.rt:114:9
 pin-frame-requires : tie.Need-pin-frame-requires
 pin-frame-requires c κs = search needs
 
--- src/relation.rt:92:9
+-- src/relation.rt:115:9
 circuit-in-requires : tie.Need-circuit-in-requires
 circuit-in-requires c κs = search needs
 
--- src/relation.rt:93:39
+-- src/relation.rt:116:54
+cast-place-of : tie.Need-cast-place-of
+cast-place-of c = search needs
+
+-- src/relation.rt:116:39
 place-of-requires : tie.Need-place-of-requires
 place-of-requires c κs = search needs
 
--- src/relation.rt:93:9
+-- src/relation.rt:116:9
 tail-requires : tie.Need-tail-requires
 tail-requires c κs = search needs
 
--- src/relation.rt:95:13
+-- src/relation.rt:118:13
 gate-value-requires : tie.Need-gate-value-requires
 gate-value-requires c κs = search needs
 
--- src/relation.rt:96:9
+-- src/relation.rt:119:9
 returns : tie.Need-returns
 unfolding netOf
 returns c = let a = c .before .before .before .before .before .before .before .before .before .before .args in
@@ -61,31 +65,31 @@ returns c = let a = c .before .before .before .before .before .before .before .b
     rw (c .before .if1 .taken)
     (conclude-output (netOf s) (presentBelow (a .c) (linesOf (a .fault))) (now (a .known)) (a .node) (a .frame) (c .before .before .before .before .before .pin-frame .result) (c .before .before .before .before .before .before .before .node-count .result) (linesIn (c .before .before .before .before .circuit-in .result)) (now (c .before .before .tail .result)) hp (c .before .before .before .before .before .before .before .node-count .ensures) (c .before .before .before .before .circuit-in .ensures) hv (c .gate-value .result) (c .gate-value .ensures))
 
--- src/relation.rt:98:42
+-- src/relation.rt:127:42
 place-of-requires-2 : tie.Need-place-of-requires-2
 place-of-requires-2 c κs = search needs
 
--- src/relation.rt:98:9
+-- src/relation.rt:127:9
 byte-at-requires : tie.Need-byte-at-requires
 byte-at-requires c κs = search needs
 
--- src/relation.rt:99:44
+-- src/relation.rt:128:44
 sub-pin-source : tie.Need-sub-pin-source
 sub-pin-source c = search needs
 
--- src/relation.rt:99:9
+-- src/relation.rt:128:9
 pin-source-requires : tie.Need-pin-source-requires
 pin-source-requires c κs = search needs
 
--- src/relation.rt:100:72
+-- src/relation.rt:129:72
 sub-pin-conclusion : tie.Need-sub-pin-conclusion
 sub-pin-conclusion c = search needs
 
--- src/relation.rt:100:9
+-- src/relation.rt:129:9
 pin-conclusion-requires : tie.Need-pin-conclusion-requires
 pin-conclusion-requires c κs = search needs
 
--- src/relation.rt:87:1
+-- src/relation.rt:102:1
 returns-2 : tie.Need-returns-2
 unfolding netOf
 returns-2 c = let a = c .before .before .before .before .before .before .before .before .before .before .before .before .before .args in
@@ -103,6 +107,7 @@ conclude-spec =
     kind-of-requires
     pin-frame-requires
     circuit-in-requires
+    cast-place-of
     place-of-requires
     tail-requires
     gate-value-requires

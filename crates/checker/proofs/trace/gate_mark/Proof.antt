@@ -1,3 +1,14 @@
+use borrow.Author.Tests.{not-true, not-false}
+use Rattle.circuit.specs.Value.{isUnknown}
+use Rattle.checker.specs.Trace.{mark}
+use Rattle.checker.proofs.MarkLaws.{gate-touched, gate-untouched, mark-known, mark-unknown}
+use Prim.Native.Nat.{ℕ}
+use mathlib.Core.Path.{_≡_, _∙_, sym, ap}
+use lib.ListN.{take}
+use denote.Ref.{now}
+use Rattle.circuit.specs.Netlist.{netOf}
+use Rattle.circuit.specs.Lists.{at}
+use Rattle.circuit.specs.Fault.{linesIn}
 use borrow.Author.Needs.{needs}
 use Rattle.checker.proofs.trace.gate_mark.Statement.{statement}
 use Rattle.checker.proofs.trace.gate_mark.Tie as tie
@@ -12,7 +23,12 @@ some-pin-touched-requires c κs = search needs
 
 -- src/trace.rt:98:9
 returns : tie.Need-returns
-returns c = ?
+returns c = let a = c .before .before .before .before .before .args in
+    let net = netOf (now (a .netlist)) in
+    let D = linesIn (a .circuit) in
+    let v = at (now (a .values)) in
+    let ms = at (take (a .limit) (now (a .marks))) in
+    gate-untouched net D v ms (a .node) (sym (c .before .some-pin-touched .ensures) ∙ not-true _ (c .if1 .taken))
 
 -- src/trace.rt:100:8
 untouched-gate-requires : tie.Need-untouched-gate-requires
@@ -20,11 +36,23 @@ untouched-gate-requires c κs = search needs
 
 -- src/trace.rt:94:1
 returns-2 : tie.Need-returns-2
-returns-2 c = ?
+unfolding netOf
+returns-2 c = let a = c .before .before .before .before .before .before .before .args in
+    let net = netOf (now (a .netlist)) in
+    let D = linesIn (a .circuit) in
+    let v = at (now (a .values)) in
+    let ms = at (take (a .limit) (now (a .marks))) in
+    mark-known _ (c .if2 .taken) ∙ ap (λ (x : ℕ). mark (isUnknown x)) (c .before .untouched-gate .ensures) ∙ gate-touched net D v ms (a .node) (sym (c .before .before .before .some-pin-touched .ensures) ∙ not-false _ (c .before .before .if1 .left))
 
 -- src/trace.rt:94:1
 returns-3 : tie.Need-returns-3
-returns-3 c = ?
+unfolding netOf
+returns-3 c = let a = c .before .before .before .before .before .before .before .args in
+    let net = netOf (now (a .netlist)) in
+    let D = linesIn (a .circuit) in
+    let v = at (now (a .values)) in
+    let ms = at (take (a .limit) (now (a .marks))) in
+    mark-unknown _ (c .if2 .left) ∙ ap (λ (x : ℕ). mark (isUnknown x)) (c .before .untouched-gate .ensures) ∙ gate-touched net D v ms (a .node) (sym (c .before .before .before .some-pin-touched .ensures) ∙ not-false _ (c .before .before .if1 .left))
 
 pub gate-mark-spec : {M : Type 1} → statement M
 gate-mark-spec =

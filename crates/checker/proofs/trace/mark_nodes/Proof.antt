@@ -1,3 +1,17 @@
+use mathlib.Core.Path.{_≡_, _∙_, sym, ap, refl}
+use Rattle.circuit.proofs.ListLaws.{build-none, build-store}
+use borrow.Author.Needs.{needs}
+use native.Mathlib.Omega.{arith}
+use mathlib.Core.List.{List, _++_}
+use Rattle.checker.specs.Trace.{marksList}
+use Rattle.checker.proofs.MarkLaws.{mark-turn}
+use Rattle.checker.proofs.Agreement.{markNext}
+use Prim.Native.Nat.{ℕ, _≤_, _<_, _-_}
+use lib.ListN.{drop, length, length-set, take}
+use denote.Ref.{now}
+use Rattle.circuit.specs.Netlist.{netOf}
+use Rattle.circuit.specs.Lists.{at, build}
+use Rattle.circuit.specs.Fault.{linesIn}
 use Rattle.checker.proofs.trace.mark_nodes.Statement.{statement}
 use Rattle.checker.proofs.trace.mark_nodes.Tie as tie
 use Rattle.checker.proofs.trace.mark_nodes.Reads as reads
@@ -6,46 +20,66 @@ use Rattle.checker.proofs.trace.node_mark.Reads as node-mark-reads
 use Rattle.circuit.proofs.store.Reads as store-reads
 
 abbrev Inv-loop : tie.InvT-loop
-Inv-loop netlist n circuit values marks₀ node₀ marks node = ?
+Inv-loop netlist n circuit values marks₀ node₀ marks node = (node ≤ n) × (length marks ≡ length marks₀) × (marks ≡ build (markNext (netOf netlist) (linesIn circuit) (at values) (at marks₀)) node ++ drop node marks₀)
 
 abbrev μ-loop : tie.MeasureT-loop
-μ-loop netlist n circuit values marks₀ node₀ marks node = ?
+μ-loop netlist n circuit values marks₀ node₀ marks node = n - node
 
 -- src/trace.rt:127:5
 loop-holds : tie.Need-loop-holds Inv-loop μ-loop
-loop-holds c = ?
+loop-holds c = let a = c .before .before .before .args in
+    (omega arith, refl, build-none (markNext (netOf (now (a .netlist))) (linesIn (a .circuit)) (at (now (a .values))) (at (now (a .marks)))) (now (a .marks)))
 
 -- src/trace.rt:128:13
 node-mark-requires : tie.Need-node-mark-requires Inv-loop μ-loop
-node-mark-requires c κs = ?
+node-mark-requires c κs = search needs
 
 -- src/trace.rt:129:31
 cast-store : tie.Need-cast-store Inv-loop μ-loop
-cast-store c = ?
+cast-store c = search needs
 
 -- src/trace.rt:129:9
 store-requires : tie.Need-store-requires Inv-loop μ-loop
-store-requires c κs = ?
+store-requires c κs = search needs
 
 -- src/trace.rt:130:9
 add-node : tie.Need-add-node Inv-loop μ-loop
-add-node c = ?
+add-node c = omega arith
 
 -- src/trace.rt:127:5
 loop-less : tie.Need-loop-less Inv-loop μ-loop
-loop-less c = ?
+loop-less c = omega arith
 
 -- src/trace.rt:127:5
 loop-again : tie.Need-loop-again Inv-loop μ-loop
-loop-again c = ?
+loop-again c = let a = c .before .before .before .before .before .before .before .before .before .before .before .args in
+    let d = now (a .marks) in
+    let D = linesIn (a .circuit) in
+    let v = at (now (a .values)) in
+    let net = netOf (now (a .netlist)) in
+    let f = markNext net D v (at d) in
+    let l = c .before .before .before .before .before .before .before .loop in
+    let st = c .before .before .store in
+    let h : l .node < length d = omega (arith, c .before .before .before .before .before .before .before .before .before .before .before .pre .1, c .before .before .before .before .before .before .loop-test .taken) in
+    (
+      omega arith,
+      rw (st .ensures) (simp length-set (l .inv .1)),
+      rw (st .ensures, c .before .before .before .before .node-mark .ensures, l .inv .2, mark-turn net D v d (l .node) h) (build-store f d (l .node) h),
+    )
 
 -- src/trace.rt:121:1
 same-length : tie.Need-same-length Inv-loop μ-loop
-same-length c = ?
+same-length c = c .before .loop .inv .1
 
 -- src/trace.rt:121:1
 returns : tie.Need-returns Inv-loop μ-loop
-returns c = ?
+unfolding marksList
+returns c = let a = c .before .before .before .before .before .args in
+    let l = c .before .loop in
+    let d = now (a .marks) in
+    let f = markNext (netOf (now (a .netlist))) (linesIn (a .circuit)) (at (now (a .values))) (at d) in
+    let h : l .node ≡ a .n = omega arith in
+    l .inv .2 ∙ ap (λ (i : ℕ). build f i ++ drop i d) h ∙ ap (λ (i : ℕ). build f i ++ drop (a .n) d) (c .before .before .before .before .before .pre .0)
 
 pub mark-nodes-spec : {M : Type 1} → statement M
 mark-nodes-spec =

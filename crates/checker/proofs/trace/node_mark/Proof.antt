@@ -1,3 +1,13 @@
+use borrow.Author.Tests.{ne-eqb}
+use Rattle.circuit.specs.Kind.{isGiven}
+use Rattle.checker.proofs.MarkLaws.{mark-flip-flop, mark-gate, mark-input}
+use Prim.Native.Nat.{ℕ}
+use mathlib.Core.Path.{_≡_, _∙_, sym, ap}
+use lib.ListN.{take}
+use denote.Ref.{now}
+use Rattle.circuit.specs.Netlist.{kindOf, netOf}
+use Rattle.circuit.specs.Lists.{at}
+use Rattle.circuit.specs.Fault.{linesIn}
 use borrow.Author.Needs.{needs}
 use Rattle.checker.proofs.trace.node_mark.Statement.{statement}
 use Rattle.checker.proofs.trace.node_mark.Tie as tie
@@ -32,7 +42,16 @@ site-mark-requires c κs = search needs
 
 -- src/trace.rt:112:9
 returns : tie.Need-returns
-returns c = ?
+unfolding netOf
+returns c = let a = c .before .before .before .before .before .before .before .before .before .args in
+    let s = now (a .netlist) in
+    let net = netOf s in
+    let D = linesIn (a .circuit) in
+    let v = at (now (a .values)) in
+    let l = at (now (a .marks)) in
+    let ms = at (take (a .node) (now (a .marks))) in
+    let k = sym (c .before .before .before .kind-of .ensures) ∙ c .before .before .if1 .taken in
+    rw (c .site-mark .ensures, c .before .before .before .before .before .stuck-node .ensures, c .before .before .before .before .byte-at .ensures, c .before .byte-at2 .ensures) (mark-flip-flop net D v ms (a .node) l k)
 
 -- src/trace.rt:114:8
 is-given-requires : tie.Need-is-given-requires
@@ -44,7 +63,17 @@ site-mark-requires-2 c κs = search needs
 
 -- src/trace.rt:115:9
 returns-2 : tie.Need-returns-2
-returns-2 c = ?
+unfolding netOf
+returns-2 c = let a = c .before .before .before .before .before .before .before .before .before .before .args in
+    let s = now (a .netlist) in
+    let net = netOf s in
+    let D = linesIn (a .circuit) in
+    let v = at (now (a .values)) in
+    let l = at (now (a .marks)) in
+    let ms = at (take (a .node) (now (a .marks))) in
+    let g = ap isGiven (sym (c .before .before .before .before .kind-of .ensures)) ∙ sym (c .before .before .is-given .ensures) ∙ c .before .if2 .taken in
+    let k : (kindOf s (a .node) ≡ 2 → ⊥) = λ e. c .before .before .before .if1 .left (c .before .before .before .before .kind-of .ensures ∙ e) in
+    rw (c .site-mark2 .ensures, c .before .before .before .before .before .before .stuck-node .ensures, c .before .before .before .before .before .byte-at .ensures) (mark-input net D v ms (a .node) l g (ne-eqb _ _ k))
 
 -- src/trace.rt:117:29
 gate-mark-requires : tie.Need-gate-mark-requires
@@ -56,7 +85,16 @@ site-mark-requires-3 c κs = search needs
 
 -- src/trace.rt:105:1
 returns-3 : tie.Need-returns-3
-returns-3 c = ?
+unfolding netOf
+returns-3 c = let a = c .before .before .before .before .before .before .before .before .before .before .before .args in
+    let s = now (a .netlist) in
+    let net = netOf s in
+    let D = linesIn (a .circuit) in
+    let v = at (now (a .values)) in
+    let l = at (now (a .marks)) in
+    let ms = at (take (a .node) (now (a .marks))) in
+    let g = ap isGiven (sym (c .before .before .before .before .before .kind-of .ensures)) ∙ sym (c .before .before .before .is-given .ensures) ∙ c .before .before .if2 .left in
+    rw (c .site-mark3 .ensures, c .before .before .before .before .before .before .before .stuck-node .ensures, c .before .before .before .before .before .before .byte-at .ensures, c .before .gate-mark .ensures) (mark-gate net D v ms (a .node) l g)
 
 pub node-mark-spec : {M : Type 1} → statement M
 node-mark-spec =

@@ -49,7 +49,7 @@ length-of-requires c κs = search needs
 loop-holds : tie.Need-loop-holds Inv-loop μ-loop
 loop-holds c = let a = c .before .before .before .before .before .before .before .args in
     let s = now (a .netlist) in
-    let f = (λ k m. untouchedValue (pinMark (netOf s) (linesIn (a .circuit)) (at (now (a .values))) (at (take (a .limit) (now (a .marks)))) (a .node) k m) (at (now (a .values)) m)) in
+    let f : ℕ → ℕ → ℕ = (λ k m. untouchedValue (pinMark (netOf s) (linesIn (a .circuit)) (at (now (a .values))) (at (take (a .limit) (now (a .marks)))) (a .node) k m) (at (now (a .values)) m)) in
     let ms = indexed f 0 (netOf s .pins (a .node)) in
     let len = length-by-pin s f (a .node) in
     (omega (arith, c .length-of .ensures), rw (c .before .unit-of .ensures, c .length-of .ensures, ← len) (function-none (c .before .before .rule-of .result .gate) ms))
@@ -74,7 +74,7 @@ loop-less c = omega arith
 loop-again : tie.Need-loop-again Inv-loop μ-loop
 loop-again c = let a = c .before .before .before .before .before .before .before .before .before .before .before .args in
     let s = now (a .netlist) in
-    let f = (λ k m. untouchedValue (pinMark (netOf s) (linesIn (a .circuit)) (at (now (a .values))) (at (take (a .limit) (now (a .marks)))) (a .node) k m) (at (now (a .values)) m)) in
+    let f : ℕ → ℕ → ℕ = (λ k m. untouchedValue (pinMark (netOf s) (linesIn (a .circuit)) (at (now (a .values))) (at (take (a .limit) (now (a .marks)))) (a .node) k m) (at (now (a .values)) m)) in
     let ms = indexed f 0 (netOf s .pins (a .node)) in
     let len = length-by-pin s f (a .node) in
     let g = c .before .before .before .before .before .before .rule-of .result .gate in

@@ -10,17 +10,17 @@ use Rattle.checker.proofs.window.place_of.Lts as lts
 -- src/window.rt:9:5
 mul-result : tie.Need-mul-result
 mul-result c = let a = c .args in
-    let g : a .frame ≤ 255 = omega arith in
+    let g : a .frame ≤ 65535 = omega arith in
     let h : a .n ≤ 65535 = omega arith in
-    let m : a .frame * a .n ≤ 255 * 65535 = mul-le-mul g h in
+    let m : a .frame * a .n ≤ 65535 * 65535 = mul-le-mul g h in
     omega arith
 
 -- src/window.rt:9:5
 add-result : tie.Need-add-result
 add-result c = let a = c .args in
-    let g : a .frame ≤ 255 = omega arith in
+    let g : a .frame ≤ 65535 = omega arith in
     let h : a .n ≤ 65535 = omega arith in
-    let m : a .frame * a .n ≤ 255 * 65535 = mul-le-mul g h in
+    let m : a .frame * a .n ≤ 65535 * 65535 = mul-le-mul g h in
     omega arith
 
 -- src/window.rt:6:1

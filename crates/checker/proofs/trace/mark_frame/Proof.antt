@@ -1,0 +1,70 @@
+use lib.Seq.{take-at}
+use Rattle.circuit.proofs.ListLaws.{take-inside}
+use Rattle.checker.specs.Trace.{marksList, outputUntouched}
+use Rattle.checker.proofs.MarkLaws.{marks-latched, length-marks}
+use Prim.Native.Nat.{ℕ, _<_}
+use native.Mathlib.Omega.{arith}
+use mathlib.Core.Path.{_≡_, _∙_, sym, ap}
+use mathlib.Core.List.{List}
+use lib.ListN.{drop, length, take}
+use denote.Ref.{now}
+use Rattle.circuit.specs.Netlist.{netOf}
+use Rattle.circuit.specs.Lists.{at, every}
+use Rattle.circuit.specs.Fault.{linesIn}
+use Rattle.checker.specs.Window.{knownIn}
+use Rattle.checker.proofs.WindowLaws.{frame-values}
+use borrow.Author.Needs.{needs}
+use Rattle.checker.proofs.trace.mark_frame.Statement.{statement}
+use Rattle.checker.proofs.trace.mark_frame.Tie as tie
+use Rattle.checker.proofs.trace.mark_frame.Reads as reads
+use Rattle.checker.proofs.trace.mark_frame.Lts as lts
+use Rattle.checker.proofs.trace.mark_nodes.Reads as mark-nodes-reads
+use Rattle.checker.proofs.trace.outputs_untouched.Reads as outputs-untouched-reads
+use Rattle.checker.proofs.window.place_of.Reads as place-of-reads
+use Rattle.circuit.proofs.tail.Reads as tail-reads
+
+-- src/trace.rt:214:39
+place-of-requires : tie.Need-place-of-requires
+place-of-requires c κs = search needs
+
+-- src/trace.rt:214:9
+tail-requires : tie.Need-tail-requires
+tail-requires c κs = search needs
+
+-- src/trace.rt:215:5
+mark-nodes-requires : tie.Need-mark-nodes-requires
+mark-nodes-requires c κs = search needs
+
+-- src/trace.rt:216:5
+outputs-untouched-requires : tie.Need-outputs-untouched-requires
+outputs-untouched-requires c κs = search needs
+
+-- src/trace.rt:208:1
+same-length : tie.Need-same-length
+same-length c = search needs
+
+-- src/trace.rt:208:1
+returns : tie.Need-returns
+returns c = let a = c .before .before .before .before .before .before .before .before .before .before .before .args in
+    let net = netOf (now (a .netlist)) in
+    let D = linesIn (a .circuit) in
+    let l = now (a .marks) in
+    let size = c .before .before .before .before .before .before .before .before .before .before .before .pre .0 in
+    let kn = frame-values (now (a .known)) (now (c .before .before .before .before .before .before .tail .result)) (a .n) (net .size) (a .frame) (c .before .before .before .before .before .before .tail .ensures ∙ ap (λ (k : ℕ). drop k (now (a .known))) (c .before .before .before .before .before .before .before .place-of .ensures)) size in
+    let v = at (now (c .before .before .before .before .before .before .tail .result)) in
+    let e = ap (take (a .n)) (c .before .before .before .before .mark-nodes .ensures) ∙ take-at (marksList net D v (at l)) (drop (a .n) l) (a .n) (length-marks net D v (at l) ∙ sym size) in
+    let f = marks-latched net D v (at l) (at (take (a .n) l)) (λ i h. take-inside l (a .n) i (omega (arith, size, h))) in
+    let g = ap (λ (w : ℕ → ℕ). marksList net D w (at (take (a .n) l))) kn in
+    let m = e ∙ f ∙ g in
+    (m, c .outputs-untouched .ensures ∙ (λ i. every (outputUntouched net (m i)) (size i)))
+
+pub mark-frame-spec : {M : Type 1} → statement M
+mark-frame-spec =
+    tie.close
+    (tie.spec
+    place-of-requires
+    tail-requires
+    mark-nodes-requires
+    outputs-untouched-requires
+    same-length
+    returns)

@@ -1,0 +1,46 @@
+use Rattle.checker.specs.Trace.{latchedMarks, latchedUntouched}
+use Prim.Native.Nat.{ℕ, _<_}
+use native.Mathlib.Omega.{arith}
+use mathlib.Core.Path.{_≡_, _∙_, sym, ap}
+use mathlib.Core.List.{List}
+use lib.ListN.{drop, length, take}
+use denote.Ref.{now}
+use Rattle.circuit.specs.Netlist.{netOf}
+use Rattle.circuit.specs.Lists.{at, every}
+use Rattle.circuit.specs.Fault.{linesIn}
+use Rattle.checker.specs.Window.{knownIn}
+use Rattle.checker.proofs.WindowLaws.{frame-values}
+use borrow.Author.Needs.{needs}
+use Rattle.checker.proofs.trace.pins_die.Statement.{statement}
+use Rattle.checker.proofs.trace.pins_die.Tie as tie
+use Rattle.checker.proofs.trace.pins_die.Reads as reads
+use Rattle.checker.proofs.trace.pins_die.Lts as lts
+use Rattle.checker.proofs.trace.pins_untouched.Reads as pins-untouched-reads
+use Rattle.checker.proofs.window.place_of.Reads as place-of-reads
+use Rattle.circuit.proofs.tail.Reads as tail-reads
+
+-- src/trace.rt:234:39
+place-of-requires : tie.Need-place-of-requires
+place-of-requires c κs = search needs
+
+-- src/trace.rt:234:9
+tail-requires : tie.Need-tail-requires
+tail-requires c κs = search needs
+
+-- src/trace.rt:235:5
+pins-untouched-requires : tie.Need-pins-untouched-requires
+pins-untouched-requires c κs = search needs
+
+-- src/trace.rt:230:1
+returns : tie.Need-returns
+returns c = let a = c .before .before .before .before .before .before .args in
+    let net = netOf (now (a .netlist)) in
+    let D = linesIn (a .circuit) in
+    let l = now (a .marks) in
+    let size = c .before .before .before .before .before .before .pre in
+    let kn = frame-values (now (a .known)) (now (c .before .tail .result)) (a .n) (net .size) (a .frame) (c .before .tail .ensures ∙ ap (λ (k : ℕ). drop k (now (a .known))) (c .before .before .place-of .ensures)) size in
+    c .pins-untouched .ensures ∙ (λ i. every (latchedUntouched (latchedMarks net D (kn i) (at (take (a .n) l)))) (size i))
+
+pub pins-die-spec : {M : Type 1} → statement M
+pins-die-spec =
+    tie.close (tie.spec place-of-requires tail-requires pins-untouched-requires returns)

@@ -1,0 +1,94 @@
+use lib.Dec.{eqb}
+use borrow.Author.Tests.{eq-eqb, ne-eqb}
+use Rattle.circuit.specs.Fault.{linesIn}
+use Rattle.checker.specs.Trace.{latchedMarks, latchedUntouched}
+use Rattle.checker.proofs.Agreement.{latched-law}
+use Prim.Native.Nat.{ℕ, _≤_, _<_, _-_}
+use mathlib.Core.Path.{_≡_, _∙_, sym, ap, refl}
+use mathlib.Core.Bool.{true, false}
+use lib.ListN.{take}
+use denote.Ref.{now}
+use native.Mathlib.Omega.{arith}
+use borrow.Author.Needs.{needs}
+use Rattle.circuit.specs.Netlist.{netOf}
+use Rattle.circuit.specs.Lists.{at, every}
+use Rattle.circuit.proofs.ListLaws.{every-more, every-fails, every-done}
+use Rattle.checker.proofs.trace.pins_untouched.Statement.{statement}
+use Rattle.checker.proofs.trace.pins_untouched.Tie as tie
+use Rattle.checker.proofs.trace.pins_untouched.Reads as reads
+use Rattle.checker.proofs.trace.pins_untouched.Lts as lts
+use Rattle.checker.proofs.trace.latched_mark.Reads as latched-mark-reads
+
+abbrev Inv-loop : tie.InvT-loop
+Inv-loop netlist n circuit values marks node₀ node = (node ≤ n) × (every (latchedUntouched (latchedMarks (netOf netlist) (linesIn circuit) (at values) (at (take n marks)))) node ≡ true)
+
+abbrev μ-loop : tie.MeasureT-loop
+μ-loop netlist n circuit values marks node₀ node = n - node
+
+-- src/trace.rt:191:5
+loop-holds : tie.Need-loop-holds Inv-loop μ-loop
+unfolding every
+loop-holds c = (omega arith, refl)
+
+-- src/trace.rt:192:12
+latched-mark-requires : tie.Need-latched-mark-requires Inv-loop μ-loop
+latched-mark-requires c κs = search needs
+
+-- src/trace.rt:193:13
+returns : tie.Need-returns Inv-loop μ-loop
+returns c = let a = c .before .before .before .before .before .before .before .args in
+    let net = netOf (now (a .netlist)) in
+    let D = linesIn (a .circuit) in
+    let v = at (now (a .values)) in
+    let ms = at (take (a .n) (now (a .marks))) in
+    let g = latchedUntouched (latchedMarks net D v ms) in
+    let i = c .before .before .before .loop .node in
+    let h : i < net .size = omega (arith, c .before .before .before .before .before .before .before .pre, c .before .before .loop-test .taken) in
+    let e = latched-law net D v ms i h ∙ sym (c .before .latched-mark .ensures) in
+    sym (every-fails g _ i (c .before .before .loop-test .taken) (ne-eqb _ 0 (λ z. c .if1 .taken (sym e ∙ z))))
+
+-- src/trace.rt:195:9
+add-node : tie.Need-add-node Inv-loop μ-loop
+add-node c = omega arith
+
+-- src/trace.rt:191:5
+loop-less : tie.Need-loop-less Inv-loop μ-loop
+loop-less c = omega arith
+
+-- src/trace.rt:191:5
+loop-again : tie.Need-loop-again Inv-loop μ-loop
+loop-again c = let a = c .before .before .before .before .before .before .before .args in
+    let net = netOf (now (a .netlist)) in
+    let D = linesIn (a .circuit) in
+    let v = at (now (a .values)) in
+    let ms = at (take (a .n) (now (a .marks))) in
+    let g = latchedUntouched (latchedMarks net D v ms) in
+    let l = c .before .before .before .loop in
+    let h : l .node < net .size = omega (arith, c .before .before .before .before .before .before .before .pre, c .before .before .loop-test .taken) in
+    let e = latched-law net D v ms (l .node) h ∙ sym (c .before .latched-mark .ensures) in
+    (omega arith, every-more g (l .node) (l .inv .1) (eq-eqb _ 0 (e ∙ c .if1 .left)))
+
+-- src/trace.rt:186:1
+returns-2 : tie.Need-returns-2 Inv-loop μ-loop
+returns-2 c = let a = c .before .before .before .before .before .args in
+    let net = netOf (now (a .netlist)) in
+    let D = linesIn (a .circuit) in
+    let v = at (now (a .values)) in
+    let ms = at (take (a .n) (now (a .marks))) in
+    let g = latchedUntouched (latchedMarks net D v ms) in
+    let l = c .before .loop in
+    every-done g (l .node) _ (l .inv .1) (l .inv .0) (c .loop-test .left)
+
+pub pins-untouched-spec : {M : Type 1} → statement M
+pins-untouched-spec =
+    tie.close
+    (tie.spec
+    Inv-loop
+    μ-loop
+    loop-holds
+    latched-mark-requires
+    returns
+    add-node
+    loop-less
+    loop-again
+    returns-2)
