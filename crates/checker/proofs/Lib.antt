@@ -2,6 +2,8 @@
 pub mod RelationLaws
 pub mod WindowLaws
 pub mod FollowLaws
+pub mod HoldLaws
+pub mod LayoutLaws
 pub mod Agreement
 pub mod TraceLaws
 pub mod MarkLaws

@@ -2,16 +2,16 @@
 use mathlib.Core.Bool.{Bool, _&&_, _||_, cond, false, not, true}
 use mathlib.Core.List.{List, [], _++_, _∷_}
 use mathlib.Core.Path.{_∙_, _≡_, ap, refl, subst, sym}
-use Prim.Native.Nat.{_+_, _-_, _<_, _≤_, suc, zero, ℕ}
+use Prim.Native.Nat.{_*_, _+_, _-_, _<_, _≤_, suc, zero, ℕ}
 use native.Mathlib.Nat.{le-of-suc-le-suc, not-suc-le-zero}
 use native.Mathlib.Numerals.{add-one}
 use native.Mathlib.Omega.{arith}
 use lib.Dec.{eqb}
-use lib.ListN.{drop, drop-of-length-le, length, take}
+use lib.ListN.{drop, drop-of-length-le, length, replicate, take}
 use lib.Seq.{drop-cons, take-at}
-use borrow.Author.Tests.{ne-eqb}
+use borrow.Author.Tests.{le-leb, lt-leb, ne-eqb}
 use Rattle.checker.proofs.Agreement.{markNext}
-use Rattle.checker.specs.Trace.{effectDies, gateMark, latchedMark, latchedMarks, latchedUntouched, mark, marksList, nodeMark, outputUntouched, pinMark, siteMark, someMark, untouchedValue}
+use Rattle.checker.specs.Trace.{cleared, effectDies, gateMark, latchedMark, latchedMarks, latchedUntouched, mark, marksList, nodeMark, outputUntouched, pinMark, siteMark, someMark, traced, tracing, untouchedValue}
 use Rattle.circuit.proofs.ListLaws.{build-rest, build-same, length-build, take-inside}
 use Rattle.circuit.proofs.ValueLaws.{known-low, unknown-high}
 use Rattle.circuit.specs.Fault.{StuckLines, noneStuck}
@@ -138,3 +138,32 @@ module _ (net : Net) (kn : ℕ → ℕ → ℕ) (t : ℕ) (D : StuckLines) (l : 
   pub dies-last : (a b : Bool) → a ≡ every (outputUntouched net frameMarks) (net .size) → b ≡ every (latchedUntouched nextMarks) (net .size) → (a && b) ≡ effectDies net kn 0 t D l
   unfolding effectDies
   dies-last a b e f = λ i. e i && f i
+
+-- the trace reads the marks of the flip-flops place by place, so a slice of zeros is as good as none
+pub dies-latched : (net : Net) (kn : ℕ → ℕ → ℕ) (r t : ℕ) (D : StuckLines) (l m : List ℕ) → at l ≡ at m → effectDies net kn r t D l ≡ effectDies net kn r t D m
+unfolding effectDies
+dies-latched net kn zero t D l m e = λ i.
+    every (outputUntouched net (marksList net D (λ n. kn n t) (e i))) (net .size)
+    && every (latchedUntouched (latchedMarks net D (λ n. kn n t) (at (marksList net D (λ n. kn n t) (e i))))) (net .size)
+dies-latched net kn (suc r) t D l m e = λ i.
+    every (outputUntouched net (marksList net D (λ n. kn n t) (e i))) (net .size)
+    && effectDies net kn r (suc t) noneStuck (latchedMarks net D (λ n. kn n t) (at (marksList net D (λ n. kn n t) (e i))))
+
+zeros-taken : (n m j : ℕ) → at (take n (replicate m 0)) j ≡ 0
+zeros-taken zero m j = refl
+zeros-taken (suc n) zero j = refl
+zeros-taken (suc n) (suc m) zero = refl
+zeros-taken (suc n) (suc m) (suc j) = zeros-taken n m j
+
+pub no-marks : (n m : ℕ) → at (take n (replicate m 0)) ≡ at []
+no-marks n m = λ i j. zeros-taken n m j i
+
+-- the trace of a window, where the slice of marks is too short, and where it is long enough
+module _ (net : Net) (f : StuckLines) (c F : ℕ) (kn : ℕ → ℕ → ℕ) (marks : List ℕ) where
+  pub tracing-short : length marks < net .size * (F + 1) → traced false marks ≡ tracing net f c F kn marks
+  unfolding tracing
+  tracing-short h = rw (lt-leb (net .size * (F + 1)) (length marks) h)
+
+  pub tracing-long : net .size * (F + 1) ≤ length marks → traced (effectDies net kn F c f []) (cleared (net .size * (F + 1)) marks) ≡ tracing net f c F kn marks
+  unfolding tracing
+  tracing-long h = rw (le-leb (net .size * (F + 1)) (length marks) h)

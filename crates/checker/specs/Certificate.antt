@@ -8,6 +8,7 @@ use Rattle.circuit.specs.Fault.{siteOf}
 use Rattle.circuit.specs.Lists.{at}
 use Rattle.circuit.specs.Netlist.{u16At}
 use Rattle.circuit.specs.declared.fault.Fault.{Fault}
+use Rattle.checker.specs.declared.certificate.Head.{Head}
 use Rattle.checker.specs.declared.step.Step.{Step}
 
 -- the number of four bytes, little-endian
@@ -42,6 +43,10 @@ module _ (bs : List ℕ) where
 
   abbrev pub splitFrame : ℕ
   splitFrame = at restOf 4
+
+  -- what stands before the pairs
+  abbrev pub headOf : Head
+  headOf = record { fault = faultOf; c = cOf; f = fOf; node = splitNode; frame = splitFrame }
 
   -- branch v's pair: where its run starts, and the run's length in bytes
   abbrev pub runOffset : ℕ → ℕ

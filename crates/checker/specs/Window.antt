@@ -107,3 +107,14 @@ module _ (net : Net) (S : ℕ → StuckLines) where
         | true ↦ record { values = replicate (net .size * W) 2; steps = []; closed = true }
         | false ↦ record { values = set (replicate (net .size * W) 2) (t * net .size + n) v; steps = []; closed = false }
       ]
+
+-- Entering a value at a place of a work slice, where a byte of 2 or more is unknown: whether that is a contradiction, and the bytes then.
+pub record Entered : Type 0 where
+  pub closed : Bool
+  pub bytes : List ℕ
+
+abbrev pub entered : Bool → List ℕ → Entered
+entered closed bytes = record { closed = closed; bytes = bytes }
+
+abbrev pub enterAt : List ℕ → ℕ → ℕ → Entered
+enterAt bytes i v = cond (isUnknown (at bytes i)) (entered false (set bytes i v)) (entered true bytes)

@@ -1,4 +1,5 @@
 // The checker of certificates: what is known in a window of frames, the fault's effect, and the verdict.
+mod certificate;
 mod check;
 mod follow;
 mod relation;

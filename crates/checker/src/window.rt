@@ -1,10 +1,73 @@
-// A window of frames in a work slice: frame by frame, a byte for each node.
+// A window of frames in a work slice: frame by frame, a byte for each node, which holds what is known
+// of the node at that frame. A byte of 2 or more says that nothing is.
 ghost use mathlib.Core.Path.{_≡_};
-ghost use Prim.Native.Nat.{_+_, _*_};
+ghost use Prim.Native.Nat.{_+_, _*_, _<_, _≤_};
+ghost use lib.ListN.{length, replicate, set};
+ghost use Rattle.circuit.specs.Fault.{linesOf};
+ghost use Rattle.circuit.specs.Netlist.{netOf};
+ghost use Rattle.checker.specs.Window.{Holds, begin, enterAt, entered, presentBelow};
+use circuit::Circuit;
+use circuit::Fault;
+use circuit::UNKNOWN;
 
 // The place of a node at a frame, in a circuit of n nodes.
 pub fn place_of(n: u16, node: u16, frame: u16) -> usize
     ensures { λ r. ⌜ r ≡ frame * n + node ⌝ }
 {
     frame as usize * n as usize + node as usize
+}
+
+// Holds a faulted node at its stuck value in a frame.
+fn hold_frame(n: u16, fault: Fault, frame: u16, known: &mut [u8])
+    ensures { λ _. ⌜ now (known .exit) ≡ set (now (known .entry)) (frame * n + fault .node) (linesOf fault .node (fault .node)) ⌝ }
+{
+    let node = fault.node;
+    let held = circuit::stuck_node(Circuit::Faulty(fault), node);
+    circuit::store(known, place_of(n, node, frame), held);
+}
+
+// Puts what is known at the start: below frame c a faulted node is held at its stuck value.
+fn hold_fault(netlist: &[u8], n: u16, w: u16, fault: Fault, c: u8, known: &mut [u8])
+    requires { ⌜ n ≡ netOf (now netlist) .size ⌝ }
+    requires { ⌜ length (now known) ≡ n * w ⌝ }
+    requires { ⌜ (fault .node < n) × (fault .stuck < 2) ⌝ }
+    requires { ⌜ c ≤ w ⌝ }
+    ensures { λ _. ⌜ Holds (netOf (now (netlist .entry))) (presentBelow c (linesOf fault)) w (replicate (netOf (now (netlist .entry)) .size * w) 2) (now (known .exit)) ⌝ }
+{
+    circuit::fill(known, UNKNOWN);
+    let mut frame: u16 = 0;
+    while frame < c as u16 {
+        hold_frame(n, fault, frame, known);
+        frame += 1;
+    }
+}
+
+// Begins a branch: the split has the value v. Says whether that contradicts a held value.
+pub(crate) fn begin_branch(netlist: &[u8], n: u16, w: u16, fault: Fault, c: u8, node: u16, frame: u8, v: u8, known: &mut [u8]) -> bool
+    requires { ⌜ n ≡ netOf (now netlist) .size ⌝ }
+    requires { ⌜ length (now known) ≡ n * w ⌝ }
+    requires { ⌜ (fault .node < n) × (fault .stuck < 2) ⌝ }
+    requires { ⌜ c ≤ w ⌝ }
+    requires { ⌜ (node < n) × (frame < w) × (v < 2) ⌝ }
+    ensures { λ r. ⌜ r ≡ begin (netOf (now (netlist .entry))) (presentBelow c (linesOf fault)) w node frame v .closed ⌝ }
+    ensures { λ r. ⌜ Holds (netOf (now (netlist .entry))) (presentBelow c (linesOf fault)) w (begin (netOf (now (netlist .entry))) (presentBelow c (linesOf fault)) w node frame v .values) (now (known .exit)) ⌝ }
+{
+    hold_fault(netlist, n, w, fault, c, known);
+    let place = place_of(n, node, frame as u16);
+    if circuit::values_differ(circuit::byte_at(known, place), v) {
+        return true;
+    }
+    circuit::store(known, place, v);
+    false
+}
+
+// Enters a value that was concluded. Says whether it contradicts a known one, which then stays.
+pub fn enter_value(known: &mut [u8], place: usize, value: u8) -> bool
+    ensures { λ r. ⌜ entered r (now (known .exit)) ≡ enterAt (now (known .entry)) place value ⌝ }
+{
+    if circuit::byte_at(known, place) < UNKNOWN {
+        return true;
+    }
+    circuit::store(known, place, value);
+    false
 }

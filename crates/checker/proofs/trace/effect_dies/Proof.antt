@@ -1,3 +1,16 @@
+use mathlib.Core.List.{List, [], _++_}
+use lib.ListN.{length, drop, replicate}
+use lib.Seq.{length-take-le}
+use denote.Ref.{now}
+use Rattle.circuit.specs.Netlist.{netOf}
+use Rattle.circuit.specs.Fault.{linesOf}
+use Rattle.checker.specs.Window.{knownIn}
+use Rattle.checker.specs.Trace.{Traced, cleared, effectDies, traced}
+use Rattle.checker.proofs.MarkLaws.{tracing-short, tracing-long}
+use mathlib.Core.Path.{_≡_, _∙_, ap, sym}
+use Prim.Native.Nat.{ℕ, _≤_, _<_, _*_, _+_}
+use native.Mathlib.Omega.{arith}
+use native.Mathlib.Nat.{mul-le-mul}
 use borrow.Author.Needs.{needs}
 use Rattle.checker.proofs.trace.effect_dies.Statement.{statement}
 use Rattle.checker.proofs.trace.effect_dies.Tie as tie
@@ -20,11 +33,21 @@ add-size c = search needs
 
 -- src/trace.rt:279:16
 mul-size : tie.Need-mul-size
-mul-size c = ?
+mul-size c = let n = c .node-count .result in
+    let f = c .before .before .before .before .args .f in
+    let g : n ≤ 65535 = omega arith in
+    let h : f + 1 ≤ 256 = omega arith in
+    let m : n * (f + 1) ≤ 65535 * 256 = mul-le-mul g h in
+    omega arith
 
 -- src/trace.rt:281:9
 returns : tie.Need-returns
-returns c = ?
+unfolding netOf
+returns c = let a = c .before .before .before .before .before .args in
+    let net = netOf (now (a .netlist)) in
+    let kn = knownIn (now (a .known)) (net .size) in
+    let e : c .before .node-count .result * (a .f + 1) ≡ net .size * (a .f + 1) = ap (λ (x : ℕ). x * (a .f + 1)) (c .before .node-count .ensures) in
+    tracing-short net (linesOf (a .fault)) (a .c) (a .f) kn (now (a .marks)) (rw (← e) (c .if1 .taken))
 
 -- src/trace.rt:283:50
 slice-relend-prefix-trace-window : tie.Need-slice-relend-prefix-trace-window
@@ -32,11 +55,12 @@ slice-relend-prefix-trace-window c = search needs
 
 -- src/trace.rt:283:50
 slice-aggregate-trace-window : tie.Need-slice-aggregate-trace-window
-slice-aggregate-trace-window c = ?
+slice-aggregate-trace-window c = sym (length-take-le _ (now (c .before .before .before .before .before .before .args .marks)) (c .before .if1 .left))
 
 -- src/trace.rt:283:5
 trace-window-requires : tie.Need-trace-window-requires
-trace-window-requires c κs = ?
+unfolding netOf
+trace-window-requires c κs = (c .before .before .node-count .ensures, sym (length-take-le _ (now (c .before .before .before .before .before .before .args .marks)) (c .before .if1 .left)))
 
 -- src/trace.rt:275:1
 same-length : tie.Need-same-length
@@ -44,7 +68,17 @@ same-length c = search needs
 
 -- src/trace.rt:275:1
 returns-2 : tie.Need-returns-2
-returns-2 c = ?
+unfolding netOf
+returns-2 c = let a = c .before .before .before .before .before .before .before .before .before .args in
+    let net = netOf (now (a .netlist)) in
+    let kn = knownIn (now (a .known)) (net .size) in
+    let e : c .before .before .before .before .before .node-count .result * (a .f + 1) ≡ net .size * (a .f + 1) = ap (λ (x : ℕ). x * (a .f + 1)) (c .before .before .before .before .before .node-count .ensures) in
+    let n = c .before .before .before .before .before .node-count .result in
+    let t = c .before .before .trace-window .ensures in
+    let len = length-take-le (n * (a .f + 1)) (now (a .marks)) (c .before .before .before .before .if1 .left) in
+    let z = ap (λ (x : Traced). x .marks) t ∙ ap (λ (x : ℕ). replicate x 0) (len ∙ e) in
+    let d = ap (λ (x : Traced). x .dies) t in
+    (λ i. traced (d i) (z i ++ drop (e i) (now (a .marks)))) ∙ tracing-long net (linesOf (a .fault)) (a .c) (a .f) kn (now (a .marks)) (rw (← e) (c .before .before .before .before .if1 .left))
 
 pub effect-dies-spec : {M : Type 1} → statement M
 effect-dies-spec =

@@ -1,3 +1,13 @@
+use Prim.Native.Nat.{ℕ}
+use mathlib.Core.Path.{_≡_, _∙_, ap}
+use mathlib.Core.List.{List, []}
+use lib.ListN.{length, replicate, take}
+use denote.Ref.{now}
+use Rattle.circuit.specs.Netlist.{netOf}
+use Rattle.circuit.specs.Fault.{linesOf}
+use Rattle.checker.specs.Window.{knownIn}
+use Rattle.checker.specs.Trace.{effectDies, traced}
+use Rattle.checker.proofs.MarkLaws.{dies-latched, no-marks}
 use borrow.Author.Needs.{needs}
 use Rattle.checker.proofs.trace.trace_window.Statement.{statement}
 use Rattle.checker.proofs.trace.trace_window.Tie as tie
@@ -24,7 +34,14 @@ same-length c = search needs
 
 -- src/trace.rt:260:1
 returns : tie.Need-returns
-returns c = ?
+returns c = let a = c .before .before .before .before .before .before .before .before .before .before .before .before .before .before .before .args in
+    let net = netOf (now (a .netlist)) in
+    let kn = knownIn (now (a .known)) (net .size) in
+    let m = length (now (a .marks)) in
+    let e = c .before .before .before .before .before .before .dies-from .ensures ∙ ap (λ (l : List ℕ). effectDies net kn (a .f) (a .c) (linesOf (a .fault)) (take (a .n) l)) (c .before .before .before .before .before .before .before .before .before .before .fill .ensures) ∙ dies-latched net kn (a .f) (a .c) (linesOf (a .fault)) (take (a .n) (replicate m 0)) [] (no-marks (a .n) m) in
+    let k = c .before .before .before .before .before .before .dies-from .kept .1 .1 .1 .1 .1 .1 .0 ∙ c .before .before .before .before .before .before .before .before .before .before .fill .kept .0 in
+    let z = c .before .before .fill2 .ensures ∙ ap (λ (x : ℕ). replicate x 0) k in
+    λ i. traced (e i) (z i)
 
 pub trace-window-spec : {M : Type 1} → statement M
 trace-window-spec =

@@ -1,0 +1,122 @@
+-- How knowledge lies in a work slice: values that are stored there are known, and nothing else changes.
+use mathlib.Core.Bool.{Bool, _&&_, cond, false, true}
+use mathlib.Core.List.{List, []}
+use mathlib.Core.Path.{_∙_, _≡_, ap, refl, subst, sym}
+use Prim.Native.Nat.{_%_, _*_, _+_, _/_, _<_, _≤_, suc, zero, ℕ}
+use native.Mathlib.Decide.{decLt, ℕ-discrete}
+use native.Mathlib.Nat.{mul-comm}
+use native.Mathlib.Numerals.{add-one}
+use native.Mathlib.Omega.{arith}
+use lib.Arith.{digits-div, digits-lt, digits-mod}
+use lib.Dec.{eqb}
+use lib.ListN.{getD, getD-replicate, length, replicate, set}
+use lib.Seq.{getD-set-other, getD-set-same}
+use Rattle.checker.proofs.RelationLaws.{absent-from, present-below}
+use Rattle.checker.specs.Window.{Holds, held, known, knownIn, presentBelow}
+use Rattle.circuit.proofs.FaultLaws.{other-nodes}
+use Rattle.circuit.proofs.ValueLaws.{stuck-free, stuck-known}
+use Rattle.circuit.specs.Fault.{StuckLines, isWhole, linesOf, noneStuck}
+use Rattle.circuit.specs.Lists.{at}
+use Rattle.circuit.specs.Netlist.{Net}
+use Rattle.circuit.specs.Value.{stuckOr}
+use Rattle.circuit.specs.declared.fault.Fault.{Fault}
+
+-- the place of a node at a frame lies in the window, and no other node and frame has it
+pub place-within : (N W n t : ℕ) → n < N → t < W → t * N + n < N * W
+place-within N W n t h g = rw (mul-comm N W) (digits-lt g h)
+
+pub place-node : (N n t m u : ℕ) → n < N → m < N → u * N + m ≡ t * N + n → m ≡ n
+place-node N n t m u h g e = sym (digits-mod u g) ∙ ap (λ (x : ℕ). x % N) e ∙ digits-mod t h
+
+pub place-frame : (N n t m u : ℕ) → n < N → m < N → u * N + m ≡ t * N + n → u ≡ t
+place-frame N n t m u h g e = sym (digits-div u g) ∙ ap (λ (x : ℕ). x / N) e ∙ digits-div t h
+
+-- a faulted node's value where nothing is known of it yet
+pub held-value : (f : Fault) → f .stuck < 2 → linesOf f .node (f .node) ≡ stuckOr (linesOf f .node (f .node)) 2
+unfolding linesOf
+held-value f h = go (eqb (f .node) (f .node) && isWhole (f .site))
+  where
+    go : (b : Bool) → cond b (f .stuck) 2 ≡ stuckOr (cond b (f .stuck) 2) 2
+    go true = sym (stuck-known (f .stuck) 2 h)
+    go false = refl
+
+pub none-held : (f : Fault) (m : ℕ) → (m ≡ f .node → ⊥) → 2 ≤ linesOf f .node m
+none-held f m d = omega (arith, other-nodes f m (λ e _. d (sym e)))
+
+module _ (net : Net) where
+  -- before anything is held, a slice of unknown values
+  pub holds-start : (f : StuckLines) (W : ℕ) → Holds net (presentBelow 0 f) W (replicate (net .size * W) 2) (replicate (net .size * W) 2)
+  unfolding Holds known held
+  holds-start f W n t h g =
+      let p = place-within (net .size) W n t h g in
+      getD-replicate (net .size * W) (t * net .size + n) 2 0 p ∙ sym (getD-replicate (net .size * W) (t * net .size + n) 2 2 p)
+
+  -- frame t more is held: the faulted node's value is stored in it
+  pub holds-frame : (f : StuckLines) (W t i : ℕ) (l bytes : List ℕ) → i < net .size → t < W → length bytes ≡ net .size * W → f .node i ≡ stuckOr (f .node i) (getD l (t * net .size + i) 2)
+      → ((m : ℕ) → (m ≡ i → ⊥) → 2 ≤ f .node m)
+      → Holds net (presentBelow t f) W l bytes
+      → Holds net (presentBelow (t + 1) f) W l (set bytes (t * net .size + i) (f .node i))
+  unfolding Holds known held
+  holds-frame f W t i l bytes hi ht len e others p n u hn hu = go (ℕ-discrete u t) (ℕ-discrete n i)
+    where
+      N : ℕ
+      N = net .size
+
+      value : ℕ
+      value = getD l (u * net .size + n) 2
+
+      apart : (u * net .size + n ≡ t * net .size + i → ⊥) → at (set bytes (t * net .size + i) (f .node i)) (u * net .size + n) ≡ stuckOr (presentBelow t f u .node n) value
+      apart d = getD-set-other bytes (t * net .size + i) (u * net .size + n) (f .node i) 0 d ∙ p n u hn hu
+
+      now-present : u ≡ t → presentBelow (t + 1) f u ≡ f
+      now-present z = present-below (t + 1) f u (omega (arith, z))
+
+      before : u ≡ t → presentBelow t f u ≡ noneStuck
+      before z = absent-from t f u (omega (arith, z))
+
+      unchanged : (u ≡ t → ⊥) → Dec (u < t) → presentBelow t f u ≡ presentBelow (t + 1) f u
+      unchanged d (yes q) = present-below t f u q ∙ sym (present-below (t + 1) f u (omega arith))
+      unchanged d (no q) = absent-from t f u (omega arith) ∙ sym (absent-from (t + 1) f u (omega arith))
+
+      go : Dec (u ≡ t) → Dec (n ≡ i) → at (set bytes (t * net .size + i) (f .node i)) (u * net .size + n) ≡ stuckOr (presentBelow (t + 1) f u .node n) value
+      go (yes z) (yes w) =
+          subst (λ (k : ℕ). at (set bytes (t * net .size + i) (f .node i)) k ≡ f .node i) (λ j. sym z j * net .size + sym w j) (getD-set-same bytes (t * net .size + i) (f .node i) 0 (omega (arith, len, place-within N W i t hi ht)))
+          ∙ e
+          ∙ (λ j. stuckOr (sym (now-present z) j .node (sym w j)) (getD l (sym z j * net .size + sym w j) 2))
+      go (yes z) (no w) =
+          apart (λ q. w (place-node N i t n u hi hn q))
+          ∙ (λ j. stuckOr (before z j .node n) value)
+          ∙ sym (stuck-free (f .node n) value (others n w))
+          ∙ (λ j. stuckOr (sym (now-present z) j .node n) value)
+      go (no z) d = apart (λ q. z (place-frame N i t n u hi hn q)) ∙ (λ j. stuckOr (unchanged z (decLt u t) j .node n) value)
+
+  -- a value is stored at a place where nothing else is held
+  pub holds-set : (S : ℕ → StuckLines) (W n t v : ℕ) (l bytes : List ℕ) → n < net .size → t < W → length bytes ≡ net .size * W → length l ≡ net .size * W → v ≡ stuckOr (held net S n t) v
+      → Holds net S W l bytes
+      → Holds net S W (set l (t * net .size + n) v) (set bytes (t * net .size + n) v)
+  unfolding Holds known
+  holds-set S W n t v l bytes hn ht lb ll e p m u hm hu = go (ℕ-discrete u t) (ℕ-discrete m n)
+    where
+      N : ℕ
+      N = net .size
+
+      k : ℕ
+      k = t * net .size + n
+
+      inside : t * net .size + n < net .size * W
+      inside = place-within N W n t hn ht
+
+      apart : (u * net .size + m ≡ t * net .size + n → ⊥) → at (set bytes (t * net .size + n) v) (u * net .size + m) ≡ stuckOr (held net S m u) (getD (set l (t * net .size + n) v) (u * net .size + m) 2)
+      apart d =
+          getD-set-other bytes (t * net .size + n) (u * net .size + m) v 0 d
+          ∙ p m u hm hu
+          ∙ ap (stuckOr (held net S m u)) (sym (getD-set-other l (t * net .size + n) (u * net .size + m) v 2 d))
+
+      go : Dec (u ≡ t) → Dec (m ≡ n) → at (set bytes (t * net .size + n) v) (u * net .size + m) ≡ stuckOr (held net S m u) (getD (set l (t * net .size + n) v) (u * net .size + m) 2)
+      go (yes z) (yes w) =
+          rw (z, w)
+          (getD-set-same bytes (t * net .size + n) v 0 (omega (arith, lb, inside))
+          ∙ e
+          ∙ ap (stuckOr (held net S n t)) (sym (getD-set-same l (t * net .size + n) v 2 (omega (arith, ll, inside)))))
+      go (yes z) (no w) = apart (λ q. w (place-node N n t m u hn hm q))
+      go (no z) d = apart (λ q. z (place-frame N n t m u hn hm q))

@@ -1,0 +1,30 @@
+use borrow.Author.Needs.{needs}
+use Rattle.checker.proofs.certificate.run_offset.Statement.{statement}
+use Rattle.checker.proofs.certificate.run_offset.Tie as tie
+use Rattle.checker.proofs.certificate.run_offset.Reads as reads
+use Rattle.checker.proofs.certificate.run_offset.Lts as lts
+use Rattle.checker.proofs.certificate.u32_at.Reads as u32-at-reads
+use Rattle.circuit.proofs.tail.Reads as tail-reads
+
+-- src/certificate.rt:57:12
+tail-requires : tie.Need-tail-requires
+tail-requires c κs = search needs
+
+-- src/certificate.rt:57:58
+mul-u32-at : tie.Need-mul-u32-at
+mul-u32-at c = search needs
+
+-- src/certificate.rt:57:54
+add-u32-at : tie.Need-add-u32-at
+add-u32-at c = search needs
+
+-- src/certificate.rt:57:5
+u32-at-requires : tie.Need-u32-at-requires
+u32-at-requires c κs = search needs
+
+-- src/certificate.rt:54:1
+returns : tie.Need-returns
+returns c = rw (c .u32-at .ensures, c .before .tail .ensures)
+
+pub run-offset-spec : {M : Type 1} → statement M
+run-offset-spec = tie.close (tie.spec tail-requires mul-u32-at add-u32-at u32-at-requires returns)

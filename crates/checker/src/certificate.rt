@@ -1,0 +1,80 @@
+// What a certificate's bytes say.
+ghost use mathlib.Core.Path.{_≡_};
+ghost use mathlib.Core.Bool.{_&&_};
+ghost use lib.Dec.{leb};
+ghost use lib.ListN.{length};
+ghost use Rattle.checker.specs.Certificate.{cOf, fOf, faultOf, headLength, headOf, pairsRight, runLength, runOffset, splitFrame, splitNode, u32At};
+use circuit::Fault;
+
+// The length of what stands before the steps.
+pub const HEAD_LENGTH: usize = 25;
+
+// The length of the fault, which c and all that follows stand behind.
+const FAULT_LENGTH: usize = 4;
+
+// What stands before the pairs: the fault, c and F, and the split.
+pub struct Head {
+    pub fault: Fault,
+    pub c: u8,
+    pub f: u8,
+    pub node: u16,
+    pub frame: u8,
+}
+
+// The number of four bytes, little-endian.
+fn u32_at(bytes: &[u8], place: usize) -> u32
+    ensures { λ r. ⌜ r ≡ u32At (now (bytes .entry)) place ⌝ }
+{
+    if bytes.len() <= place {
+        return 0;
+    }
+    circuit::u16_at(bytes, place) as u32 + 65536 * (circuit::u16_at(bytes, place + 2) as u32)
+}
+
+pub fn head_of(certificate: &[u8]) -> Head
+    ensures { λ r. ⌜ r ≡ headOf (now (certificate .entry)) ⌝ }
+{
+    let site = circuit::site_of(circuit::byte_at(certificate, 2));
+    let fault = Fault {
+        node: circuit::u16_at(certificate, 0),
+        site,
+        stuck: circuit::byte_at(certificate, 3),
+    };
+    let rest = circuit::tail(certificate, FAULT_LENGTH);
+    Head {
+        fault,
+        c: circuit::byte_at(rest, 0),
+        f: circuit::byte_at(rest, 1),
+        node: circuit::u16_at(rest, 2),
+        frame: circuit::byte_at(rest, 4),
+    }
+}
+
+// Where the run of branch v starts, and its length in bytes.
+pub fn run_offset(certificate: &[u8], v: u8) -> u32
+    ensures { λ r. ⌜ r ≡ runOffset (now (certificate .entry)) v ⌝ }
+{
+    u32_at(circuit::tail(certificate, FAULT_LENGTH), 5 + 8 * (v as usize))
+}
+
+pub fn run_length(certificate: &[u8], v: u8) -> u32
+    ensures { λ r. ⌜ r ≡ runLength (now (certificate .entry)) v ⌝ }
+{
+    u32_at(circuit::tail(certificate, FAULT_LENGTH), 9 + 8 * (v as usize))
+}
+
+// The certificate has its head, the second run follows the first, the file ends with the second, and
+// both have whole steps.
+pub fn layout_right(certificate: &[u8]) -> bool
+    ensures { λ r. ⌜ r ≡ (leb headLength (length (now (certificate .entry))) && pairsRight (now (certificate .entry))) ⌝ }
+{
+    if certificate.len() < HEAD_LENGTH {
+        return false;
+    }
+    let first = run_length(certificate, 0) as u64;
+    let second = run_length(certificate, 1) as u64;
+    let middle = run_offset(certificate, 1) as u64;
+    let start = run_offset(certificate, 0) as u64;
+    let length = certificate.len() as u64;
+    start == 25 && (middle == 25 + first && (length == middle + second && (first % 7 == 0 && second % 7 == 0)))
+}
