@@ -1,5 +1,5 @@
 -- How knowledge lies in a work slice: values that are stored there are known, and nothing else changes.
-use mathlib.Core.Bool.{Bool, _&&_, cond, false, true}
+use mathlib.Core.Bool.{Bool, _&&_, cond, false, true, true≢false}
 use mathlib.Core.List.{List, []}
 use mathlib.Core.Path.{_∙_, _≡_, ap, refl, subst, sym}
 use Prim.Native.Nat.{_%_, _*_, _+_, _/_, _<_, _≤_, suc, zero, ℕ}
@@ -8,17 +8,19 @@ use native.Mathlib.Nat.{mul-comm}
 use native.Mathlib.Numerals.{add-one}
 use native.Mathlib.Omega.{arith}
 use lib.Arith.{digits-div, digits-lt, digits-mod}
-use lib.Dec.{eqb}
+use lib.Dec.{eqb, leb, ltb}
+use borrow.Author.Tests.{leb-true, ltb-true}
 use lib.ListN.{getD, getD-replicate, length, replicate, set}
 use lib.Seq.{getD-set-other, getD-set-same}
 use Rattle.checker.proofs.RelationLaws.{absent-from, present-below}
-use Rattle.checker.specs.Window.{Holds, held, known, knownIn, presentBelow}
+use Rattle.checker.specs.Window.{Branch, Holds, begin, held, known, knownIn, presentBelow}
+use Rattle.circuit.proofs.BoolLaws.{and-left, and-right}
 use Rattle.circuit.proofs.FaultLaws.{other-nodes}
 use Rattle.circuit.proofs.ValueLaws.{stuck-free, stuck-known}
-use Rattle.circuit.specs.Fault.{StuckLines, isWhole, linesOf, noneStuck}
+use Rattle.circuit.specs.Fault.{StuckLines, faultExists, isWhole, linesOf, noneStuck, siteExists}
 use Rattle.circuit.specs.Lists.{at}
 use Rattle.circuit.specs.Netlist.{Net}
-use Rattle.circuit.specs.Value.{stuckOr}
+use Rattle.circuit.specs.Value.{differ, stuckOr}
 use Rattle.circuit.specs.declared.fault.Fault.{Fault}
 
 -- the place of a node at a frame lies in the window, and no other node and frame has it
@@ -30,6 +32,15 @@ place-node N n t m u h g e = sym (digits-mod u g) ∙ ap (λ (x : ℕ). x % N) e
 
 pub place-frame : (N n t m u : ℕ) → n < N → m < N → u * N + m ≡ t * N + n → u ≡ t
 place-frame N n t m u h g e = sym (digits-div u g) ∙ ap (λ (x : ℕ). x / N) e ∙ digits-div t h
+
+-- a fault that exists has a node of the circuit, and is stuck at 0 or 1
+pub fault-says : (net : Net) (f : Fault) → faultExists net f ≡ true → (f .node < net .size) × (f .stuck < 2)
+unfolding faultExists
+fault-says net f e =
+    let rest = siteExists (f .site) (length (net .pins (f .node))) && leb (f .stuck) 1 in
+    let a = ltb-true (f .node) (net .size) (and-left (ltb (f .node) (net .size)) rest e) in
+    let b = leb-true (f .stuck) 1 (and-right (siteExists (f .site) (length (net .pins (f .node)))) (leb (f .stuck) 1) (and-right (ltb (f .node) (net .size)) rest e)) in
+    (a, omega arith)
 
 -- a faulted node's value where nothing is known of it yet
 pub held-value : (f : Fault) → f .stuck < 2 → linesOf f .node (f .node) ≡ stuckOr (linesOf f .node (f .node)) 2
@@ -120,3 +131,43 @@ module _ (net : Net) where
           ∙ ap (stuckOr (held net S n t)) (sym (getD-set-same l (t * net .size + n) v 2 (omega (arith, ll, inside)))))
       go (yes z) (no w) = apart (λ q. w (place-node N n t m u hn hm q))
       go (no z) d = apart (λ q. z (place-frame N n t m u hn hm q))
+
+  -- a branch's start, by whether the split contradicts a held value
+  module _ (S : ℕ → StuckLines) (W n t v : ℕ) where
+    started : Bool → Branch
+    started b =
+        elim b [
+          | true ↦ record { values = replicate (net .size * W) 2; steps = []; closed = true }
+          | false ↦ record { values = set (replicate (net .size * W) 2) (t * net .size + n) v; steps = []; closed = false }
+        ]
+
+    begin-is : (b : Bool) → differ (known net S [] n t) v ≡ b → begin net S W n t v ≡ started b
+    unfolding begin started
+    begin-is b e = ap started e
+
+    pub begin-closed : differ (known net S [] n t) v ≡ true → begin net S W n t v ≡ record { values = replicate (net .size * W) 2; steps = []; closed = true }
+    unfolding started
+    begin-closed e = begin-is true e
+
+    pub begin-open : differ (known net S [] n t) v ≡ false → begin net S W n t v ≡ record { values = set (replicate (net .size * W) 2) (t * net .size + n) v; steps = []; closed = false }
+    unfolding started
+    begin-open e = begin-is false e
+
+    -- nothing but held values is known at the start
+    pub start-known : n < net .size → t < W → known net S (replicate (net .size * W) 2) n t ≡ known net S [] n t
+    unfolding known
+    start-known h g = ap (stuckOr (held net S n t)) (getD-replicate (net .size * W) (t * net .size + n) 2 2 (place-within (net .size) W n t h g))
+
+    -- a split that contradicts no held value is known
+    pub split-known : v < 2 → differ (known net S [] n t) v ≡ false → v ≡ stuckOr (held net S n t) v
+    unfolding known
+    split-known h e = go (held net S n t) v h e
+      where
+        go : (x v : ℕ) → v < 2 → differ (stuckOr x 2) v ≡ false → v ≡ stuckOr x v
+        go zero zero h e = refl
+        go zero (suc zero) h e = absurd (true≢false e)
+        go zero (suc (suc v)) h e = absurd (omega arith)
+        go (suc zero) zero h e = absurd (true≢false e)
+        go (suc zero) (suc zero) h e = refl
+        go (suc zero) (suc (suc v)) h e = absurd (omega arith)
+        go (suc (suc x)) v h e = refl

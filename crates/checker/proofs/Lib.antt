@@ -8,6 +8,7 @@ pub mod Agreement
 pub mod TraceLaws
 pub mod MarkLaws
 pub mod VerdictLaws
+pub mod ReplayLaws
 pub mod HybridRuns
 pub mod Model
 pub mod Conclusions

@@ -31,7 +31,7 @@ fill-requires c κs = search needs
 loop-holds : tie.Need-loop-holds Inv-loop μ-loop
 loop-holds c = let a = c .before .before .before .before .before .before .args in
     let net = netOf (now (a .netlist)) in
-    let m = c .before .before .before .before .before .before .pre .1 ∙ ap (λ (x : ℕ). x * a .w) (c .before .before .before .before .before .before .pre .0) in
+    let m = c .before .before .before .before .before .before .pre .1 .0 ∙ ap (λ (x : ℕ). x * a .w) (c .before .before .before .before .before .before .pre .0) in
     let e = c .before .before .fill .ensures ∙ ap (λ (x : ℕ). replicate x 2) m in
     (omega arith, ap length e ∙ length-replicate (net .size * a .w) 2, rw e (holds-start net (linesOf (a .fault)) (a .w)))
 
@@ -55,9 +55,9 @@ loop-again c = let a = c .before .before .before .before .before .before .before
     let l = c .before .before .before .before .before .loop in
     let size = c .before .before .before .before .before .before .before .before .before .before .before .before .pre .0 in
     let hf = c .before .before .hold-frame .ensures ∙ ap (λ (x : ℕ). set (l .known) (l .frame * x + f .node) (linesOf f .node (f .node))) size in
-    let hn : f .node < net .size = omega (arith, size, c .before .before .before .before .before .before .before .before .before .before .before .before .pre .2 .0) in
-    let ht : l .frame < a .w = omega (arith, c .before .before .before .before .before .before .before .before .before .before .before .before .pre .3, c .before .before .before .before .loop-test .taken) in
-    let v : linesOf f .node (f .node) ≡ stuckOr (linesOf f .node (f .node)) (getD (replicate (net .size * a .w) 2) (l .frame * net .size + f .node) 2) = held-value f (c .before .before .before .before .before .before .before .before .before .before .before .before .pre .2 .1) ∙ ap (stuckOr (linesOf f .node (f .node))) (sym (getD-replicate (net .size * a .w) (l .frame * net .size + f .node) 2 2 (place-within (net .size) (a .w) (f .node) (l .frame) hn ht))) in
+    let hn : f .node < net .size = omega (arith, size, c .before .before .before .before .before .before .before .before .before .before .before .before .pre .1 .1 .0 .0) in
+    let ht : l .frame < a .w = omega (arith, c .before .before .before .before .before .before .before .before .before .before .before .before .pre .1 .1 .1, c .before .before .before .before .loop-test .taken) in
+    let v : linesOf f .node (f .node) ≡ stuckOr (linesOf f .node (f .node)) (getD (replicate (net .size * a .w) 2) (l .frame * net .size + f .node) 2) = held-value f (c .before .before .before .before .before .before .before .before .before .before .before .before .pre .1 .1 .0 .1) ∙ ap (stuckOr (linesOf f .node (f .node))) (sym (getD-replicate (net .size * a .w) (l .frame * net .size + f .node) 2 2 (place-within (net .size) (a .w) (f .node) (l .frame) hn ht))) in
     (
       omega (arith, c .before .before .before .before .loop-test .taken),
       rw hf (simp length-set (l .inv .1)),
@@ -67,7 +67,7 @@ loop-again c = let a = c .before .before .before .before .before .before .before
 -- src/window.rt:30:1
 same-length : tie.Need-same-length Inv-loop μ-loop
 same-length c = let a = c .before .before .before .before .before .before .before .before .args in
-    c .before .loop .inv .1 ∙ sym (c .before .before .before .before .before .before .before .before .pre .1 ∙ ap (λ (x : ℕ). x * a .w) (c .before .before .before .before .before .before .before .before .pre .0))
+    c .before .loop .inv .1 ∙ sym (c .before .before .before .before .before .before .before .before .pre .1 .0 ∙ ap (λ (x : ℕ). x * a .w) (c .before .before .before .before .before .before .before .before .pre .0))
 
 -- src/window.rt:30:1
 returns : tie.Need-returns Inv-loop μ-loop

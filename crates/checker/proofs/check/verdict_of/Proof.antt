@@ -1,0 +1,90 @@
+use borrow.Author.Needs.{needs}
+use Rattle.checker.proofs.check.verdict_of.Statement.{statement}
+use Rattle.checker.proofs.check.verdict_of.Tie as tie
+use Rattle.checker.proofs.check.verdict_of.Reads as reads
+use Rattle.checker.proofs.check.verdict_of.Lts as lts
+
+-- src/check.rt:93:34
+enum-told : tie.Need-enum-told
+enum-told c = search needs
+
+-- src/check.rt:94:33
+enum-told-2 : tie.Need-enum-told-2
+enum-told-2 c = search needs
+
+-- src/check.rt:95:38
+enum-told-3 : tie.Need-enum-told-3
+enum-told-3 c = search needs
+
+-- src/check.rt:96:37
+enum-told-4 : tie.Need-enum-told-4
+enum-told-4 c = search needs
+
+-- src/check.rt:97:34
+enum-told-5 : tie.Need-enum-told-5
+enum-told-5 c = search needs
+
+-- src/check.rt:99:30
+enum-told-6 : tie.Need-enum-told-6
+enum-told-6 c = search needs
+
+-- src/check.rt:100:38
+enum-told-7 : tie.Need-enum-told-7
+enum-told-7 c = search needs
+
+-- src/check.rt:101:37
+enum-told-8 : tie.Need-enum-told-8
+enum-told-8 c = search needs
+
+-- src/check.rt:102:34
+enum-told-9 : tie.Need-enum-told-9
+enum-told-9 c = search needs
+
+-- src/check.rt:89:1
+returns : tie.Need-returns
+returns c = ?
+
+-- src/check.rt:89:1
+returns-2 : tie.Need-returns-2
+returns-2 c = ?
+
+-- src/check.rt:89:1
+returns-3 : tie.Need-returns-3
+returns-3 c = ?
+
+-- src/check.rt:89:1
+returns-4 : tie.Need-returns-4
+returns-4 c = ?
+
+-- src/check.rt:89:1
+returns-5 : tie.Need-returns-5
+returns-5 c = ?
+
+-- src/check.rt:89:1
+returns-6 : tie.Need-returns-6
+returns-6 c = ?
+
+-- src/check.rt:89:1
+returns-7 : tie.Need-returns-7
+returns-7 c = ?
+
+pub verdict-of-spec : {M : Type 1} → statement M
+verdict-of-spec =
+    tie.close
+    (tie.spec
+    enum-told
+    enum-told-2
+    enum-told-3
+    enum-told-4
+    enum-told-5
+    enum-told-6
+    enum-told-7
+    enum-told-8
+    enum-told-9
+    returns
+    returns-2
+    returns-3
+    returns-4
+    returns-5
+    returns-6
+    returns-7)
