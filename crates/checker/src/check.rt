@@ -1,5 +1,6 @@
 // The checker: reads a certificate's steps one after the other, and judges whether both branches close.
-ghost use mathlib.Core.Bool.{true};
+ghost use lib.Dec.{leb};
+ghost use mathlib.Core.Bool.{_&&_, true};
 ghost use mathlib.Core.List.{List};
 ghost use mathlib.Core.Option.{Option};
 ghost use mathlib.Core.Path.{_≡_};
@@ -10,7 +11,7 @@ ghost use Rattle.circuit.specs.Fault.{faultExists, linesOf};
 ghost use Rattle.circuit.specs.Netlist.{Net, netOf, pinCount, reading, sound};
 ghost use Rattle.checker.specs.Statement.{Redundant};
 ghost use Rattle.checker.specs.Window.{Branch, begin, presentBelow};
-ghost use Rattle.checker.specs.Certificate.{cOf, fOf, faultOf, framesOf, headOf, splitFrame, splitNode, stepsIn};
+ghost use Rattle.checker.specs.Certificate.{cOf, fOf, faultOf, framesOf, headLength, headOf, pairsRight, runOffset, splitFrame, splitNode, stepsIn};
 ghost use Rattle.checker.specs.Checker.{accepted, checkedSays, checkerCall, checking, judgement, replay, replayed, verdict};
 use crate::certificate::head_of;
 use crate::certificate::layout_right;
@@ -74,14 +75,12 @@ fn judge_run(netlist: &[u8], n: u16, certificate: &[u8], w: u16, v: u8, known: &
     requires { ⌜ (length (now known) ≡ n * w) × (length (now marks) ≡ n * w) ⌝ }
     requires { ⌜ faultExists (netOf (now netlist)) (faultOf (now certificate)) ≡ true ⌝ }
     requires { ⌜ (w ≡ framesOf (now certificate)) × (splitNode (now certificate) < n) × (splitFrame (now certificate) < w) × (v < 2) ⌝ }
+    requires { ⌜ runOffset (now certificate) v ≤ length (now certificate) ⌝ }
     ensures { λ r. ⌜ r ≡ judgement (netOf (now (netlist .entry))) (linesOf (faultOf (now (certificate .entry)))) (cOf (now (certificate .entry))) (fOf (now (certificate .entry))) (replayed (netOf (now (netlist .entry))) (now (certificate .entry)) v) ⌝ }
 {
     let head = head_of(certificate);
     let offset = run_offset(certificate, v) as usize;
     let steps = run_length(certificate, v) as usize / 7;
-    if certificate.len() < offset {
-        return judge_branch(netlist, n, head, w, v, circuit::tail(certificate, offset), steps, known, marks);
-    }
     judge_branch(netlist, n, head, w, v, &certificate[offset..], steps, known, marks)
 }
 
@@ -110,6 +109,7 @@ fn judge(netlist: &[u8], n: u16, certificate: &[u8], w: u16, known: &mut [u8], m
     requires { ⌜ (length (now known) ≡ n * w) × (length (now marks) ≡ n * w) ⌝ }
     requires { ⌜ faultExists (netOf (now netlist)) (faultOf (now certificate)) ≡ true ⌝ }
     requires { ⌜ (w ≡ framesOf (now certificate)) × (splitNode (now certificate) < n) × (splitFrame (now certificate) < w) ⌝ }
+    requires { ⌜ (leb headLength (length (now certificate)) && pairsRight (now certificate)) ≡ true ⌝ }
     ensures { λ r. ⌜ outcome (checkedSays r) (now (known .exit)) (now (marks .exit)) ≡ outcome (verdict (netOf (now (netlist .entry))) (now (certificate .entry)) (replayed (netOf (now (netlist .entry))) (now (certificate .entry)) 0) (replayed (netOf (now (netlist .entry))) (now (certificate .entry)) 1)) (replicate (length (now (known .entry))) 0) (replicate (length (now (marks .entry))) 0) ⌝ }
 {
     let head = head_of(certificate);

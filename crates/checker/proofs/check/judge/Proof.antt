@@ -1,3 +1,13 @@
+use Prim.Native.Nat.{ℕ}
+use native.Mathlib.Omega.{arith}
+use mathlib.Core.Path.{_≡_, _∙_, ap, sym}
+use lib.ListN.{length, replicate}
+use denote.Ref.{now}
+use Rattle.circuit.specs.Netlist.{netOf}
+use Rattle.circuit.specs.Answer.{outcome}
+use Rattle.checker.specs.declared.certificate.Head.{Head}
+use Rattle.checker.specs.Checker.{replayed, verdict}
+use Rattle.checker.proofs.LayoutLaws.{runs-within}
 use borrow.Author.Needs.{needs}
 use Rattle.checker.proofs.check.judge.Statement.{statement}
 use Rattle.checker.proofs.check.judge.Tie as tie
@@ -14,11 +24,17 @@ head-of-requires c κs = search needs
 
 -- src/check.rt:116:9
 judge-run-requires : tie.Need-judge-run-requires
-judge-run-requires c κs = ?
+judge-run-requires c κs = let p = c .before .before .before .before .before .before .before .pre in
+    let w = p .1 .1 .1 .0 in
+    (p .0, (p .1 .0, (p .1 .1 .0, ((w .0, w .1, w .2, omega arith), runs-within (now (c .before .before .before .before .before .before .before .args .certificate)) (p .1 .1 .1 .1) 0 (omega arith)))))
 
 -- src/check.rt:117:9
 judge-run-requires-2 : tie.Need-judge-run-requires-2
-judge-run-requires-2 c κs = ?
+judge-run-requires-2 c κs = let p = c .before .before .before .before .before .before .before .before .before .before .before .before .before .before .pre in
+    let w = p .1 .1 .1 .0 in
+    let k = c .before .before .before .before .before .before .judge-run .kept .1 .1 .1 .1 .1 .0 in
+    let m = c .before .before .before .before .before .before .judge-run .kept .1 .1 .1 .1 .1 .1 .0 in
+    (p .0, ((k ∙ p .1 .0 .0, m ∙ p .1 .0 .1), (p .1 .1 .0, ((w .0, w .1, w .2, omega arith), runs-within (now (c .before .before .before .before .before .before .before .before .before .before .before .before .before .before .args .certificate)) (p .1 .1 .1 .1) 1 (omega arith)))))
 
 -- src/check.rt:118:5
 fill-requires : tie.Need-fill-requires
@@ -32,17 +48,23 @@ fill-requires-2 c κs = search needs
 verdict-of-requires : tie.Need-verdict-of-requires
 verdict-of-requires c κs = search needs
 
--- src/check.rt:108:1
+-- src/check.rt:107:1
 same-length : tie.Need-same-length
 same-length c = search needs
 
--- src/check.rt:108:1
+-- src/check.rt:107:1
 same-length-2 : tie.Need-same-length-2
 same-length-2 c = search needs
 
--- src/check.rt:108:1
+-- src/check.rt:107:1
 returns : tie.Need-returns
-returns c = ?
+returns c = let a = c .before .before .before .before .before .before .before .before .before .before .before .before .before .before .before .before .before .before .before .before .before .before .before .before .before .before .before .before .args in
+    let net = netOf (now (a .netlist)) in
+    let bs = now (a .certificate) in
+    let v = c .verdict-of .ensures net bs (replayed net bs 0) (replayed net bs 1) (c .before .before .before .before .before .before .before .before .before .before .before .before .before .before .before .before .before .before .before .before .judge-run .ensures) (c .before .before .before .before .before .before .before .before .before .before .before .before .before .judge-run2 .ensures) (ap (λ (x : Head). x .c) (c .before .before .before .before .before .before .before .before .before .before .before .before .before .before .before .before .before .before .before .before .before .before .before .head-of .ensures)) in
+    let k = c .before .before .before .before .before .before .before .fill .ensures ∙ ap (λ (x : ℕ). replicate x 0) (c .before .before .before .before .before .before .before .before .before .before .before .before .before .judge-run2 .kept .1 .1 .1 .1 .1 .0 ∙ c .before .before .before .before .before .before .before .before .before .before .before .before .before .before .before .before .before .before .before .before .judge-run .kept .1 .1 .1 .1 .1 .0) in
+    let m = c .before .before .before .fill2 .ensures ∙ ap (λ (x : ℕ). replicate x 0) (c .before .before .before .before .before .before .before .before .before .before .before .before .before .judge-run2 .kept .1 .1 .1 .1 .1 .1 .0 ∙ c .before .before .before .before .before .before .before .before .before .before .before .before .before .before .before .before .before .before .before .before .judge-run .kept .1 .1 .1 .1 .1 .1 .0) in
+    λ i. outcome (v i) (k i) (m i)
 
 pub judge-spec : {M : Type 1} → statement M
 judge-spec =

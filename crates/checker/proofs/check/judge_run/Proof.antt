@@ -1,3 +1,17 @@
+use Prim.Native.Nat.{ℕ, _<_, _+_, _/_, _-_}
+use native.Mathlib.Omega.{arith}
+use native.Mathlib.Nat.{div-le-self}
+use mathlib.Core.Path.{_≡_, _∙_, ap, sym, subst}
+use mathlib.Core.List.{List}
+use lib.Seq.{take-all}
+use lib.ListN.{drop, length, length-drop}
+use denote.Ref.{now}
+use Rattle.circuit.specs.Netlist.{netOf}
+use Rattle.circuit.specs.Fault.{faultExists, linesOf}
+use Rattle.checker.specs.declared.certificate.Head.{Head}
+use Rattle.checker.specs.Window.{begin, presentBelow}
+use Rattle.checker.specs.Checker.{judgement, replay, replayed}
+use Rattle.checker.specs.Certificate.{framesOf, headOf, runLength, runOffset, stepsIn, stepsOf}
 use borrow.Author.Needs.{needs}
 use Rattle.checker.proofs.check.judge_run.Statement.{statement}
 use Rattle.checker.proofs.check.judge_run.Tie as tie
@@ -7,75 +21,86 @@ use Rattle.checker.proofs.certificate.head_of.Reads as head-of-reads
 use Rattle.checker.proofs.certificate.run_length.Reads as run-length-reads
 use Rattle.checker.proofs.certificate.run_offset.Reads as run-offset-reads
 use Rattle.checker.proofs.check.judge_branch.Reads as judge-branch-reads
-use Rattle.circuit.proofs.tail.Reads as tail-reads
 
--- src/check.rt:79:9
+-- src/check.rt:81:9
 head-of-requires : tie.Need-head-of-requires
 head-of-requires c κs = search needs
 
--- src/check.rt:80:18
+-- src/check.rt:82:18
 run-offset-requires : tie.Need-run-offset-requires
 run-offset-requires c κs = search needs
 
--- src/check.rt:80:18
+-- src/check.rt:82:18
 cast-offset : tie.Need-cast-offset
 cast-offset c = search needs
 
--- src/check.rt:81:17
+-- src/check.rt:83:17
 run-length-requires : tie.Need-run-length-requires
 run-length-requires c κs = search needs
 
--- src/check.rt:81:17
+-- src/check.rt:83:17
 cast-steps : tie.Need-cast-steps
 cast-steps c = search needs
 
--- src/check.rt:83:53
-tail-requires : tie.Need-tail-requires
-tail-requires c κs = search needs
-
--- src/check.rt:83:9
-judge-branch-requires : tie.Need-judge-branch-requires
-judge-branch-requires c κs = ?
-
--- src/check.rt:83:9
-same-length : tie.Need-same-length
-same-length c = search needs
-
--- src/check.rt:83:9
-same-length-2 : tie.Need-same-length-2
-same-length-2 c = search needs
-
--- src/check.rt:83:9
-returns : tie.Need-returns
-returns c = ?
-
--- src/check.rt:85:42
+-- src/check.rt:84:42
 sub-judge-branch : tie.Need-sub-judge-branch
 sub-judge-branch c = search needs
 
--- src/check.rt:85:42
+-- src/check.rt:84:42
 part-judge-branch-start : tie.Need-part-judge-branch-start
 part-judge-branch-start c = search needs
 
--- src/check.rt:85:42
+-- src/check.rt:84:42
 part-judge-branch-end : tie.Need-part-judge-branch-end
 part-judge-branch-end c = search needs
 
--- src/check.rt:85:5
-judge-branch-requires-2 : tie.Need-judge-branch-requires-2
-judge-branch-requires-2 c κs = ?
+-- src/check.rt:84:5
+judge-branch-requires : tie.Need-judge-branch-requires
+judge-branch-requires c κs = let a = c .before .before .before .before .before .before .before .before .before .before .args in
+    let net = netOf (now (a .netlist)) in
+    let e = c .before .before .before .before .before .head-of .ensures in
+    let p = c .before .before .before .before .before .before .before .before .before .before .pre in
+    let w = p .1 .1 .1 .0 in
+    (
+      p .0,
+      (
+        p .1 .0,
+        (
+          ap (λ (x : Head). faultExists net (x .fault)) e ∙ p .1 .1 .0,
+          (
+            omega (arith, div-le-self (c .before .before .before .run-length .result) 7),
+            (
+              w .0 ∙ sym (ap (λ (x : Head). x .c + x .f + 1) e),
+              subst (λ (x : Head). x .node < a .n) (sym e) (w .1),
+              subst (λ (x : Head). x .frame < a .w) (sym e) (w .2),
+              w .3,
+            ),
+          ),
+        ),
+      ),
+    )
 
--- src/check.rt:72:1
-same-length-3 : tie.Need-same-length-3
-same-length-3 c = search needs
+-- src/check.rt:73:1
+same-length : tie.Need-same-length
+same-length c = search needs
 
--- src/check.rt:72:1
-same-length-4 : tie.Need-same-length-4
-same-length-4 c = search needs
+-- src/check.rt:73:1
+same-length-2 : tie.Need-same-length-2
+same-length-2 c = search needs
 
--- src/check.rt:72:1
-returns-2 : tie.Need-returns-2
-returns-2 c = ?
+-- src/check.rt:73:1
+returns : tie.Need-returns
+unfolding replayed stepsOf
+returns c = let a = c .before .before .before .before .before .before .before .before .before .before .before .before .before .before .before .args in
+    let net = netOf (now (a .netlist)) in
+    let bs = now (a .certificate) in
+    let e = c .before .before .before .before .before .before .before .before .before .before .head-of .ensures in
+    let w = c .before .before .before .before .before .before .before .before .before .before .before .before .before .before .before .pre .1 .1 .1 .0 .0 in
+    let o = c .before .before .before .before .before .before .before .before .before .run-offset .result in
+    let st = ap (λ (x : ℕ). x / 7) (c .before .before .before .before .before .before .before .before .run-length .ensures) in
+    let rn = take-all (length bs - o) (drop o bs) (simp length-drop (omega arith)) ∙ ap (λ (k : ℕ). drop k bs) (c .before .before .before .before .before .before .before .before .before .run-offset .ensures) in
+    c .before .before .before .before .judge-branch .ensures
+    ∙ (λ i. judgement net (linesOf (e i .fault)) (e i .c) (e i .f) (replay net (presentBelow (e i .c) (linesOf (e i .fault))) (w i) (stepsIn (st i) (rn i)) (begin net (presentBelow (e i .c) (linesOf (e i .fault))) (w i) (e i .node) (e i .frame) (a .v))))
 
 pub judge-run-spec : {M : Type 1} → statement M
 judge-run-spec =
@@ -86,15 +111,10 @@ judge-run-spec =
     cast-offset
     run-length-requires
     cast-steps
-    tail-requires
-    judge-branch-requires
-    same-length
-    same-length-2
-    returns
     sub-judge-branch
     part-judge-branch-start
     part-judge-branch-end
-    judge-branch-requires-2
-    same-length-3
-    same-length-4
-    returns-2)
+    judge-branch-requires
+    same-length
+    same-length-2
+    returns)

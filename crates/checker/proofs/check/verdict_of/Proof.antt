@@ -1,3 +1,9 @@
+use Prim.Native.Nat.{ℕ}
+use native.Mathlib.Omega.{arith}
+use mathlib.Core.Path.{_≡_, _∙_, ap, sym}
+use Rattle.checker.specs.declared.check.Judgement.{Judgement}
+use Rattle.checker.specs.Checker.{accepted}
+use Rattle.checker.proofs.VerdictLaws.{found-zero-refused, found-one-refused, found-zero-open, found-one-open, found-closed}
 use borrow.Author.Needs.{needs}
 use Rattle.checker.proofs.check.verdict_of.Statement.{statement}
 use Rattle.checker.proofs.check.verdict_of.Tie as tie
@@ -42,31 +48,31 @@ enum-told-9 c = search needs
 
 -- src/check.rt:89:1
 returns : tie.Need-returns
-returns c = ?
+returns c = λ net bs x y ex ey ec. sym (found-zero-refused net bs x y (sym ex ∙ c .enum-told .given .1))
 
 -- src/check.rt:89:1
 returns-2 : tie.Need-returns-2
-returns-2 c = ?
+returns-2 c = λ net bs x y ex ey ec. sym (found-one-refused net bs x y (sym ey ∙ c .enum-told3 .given .1))
 
 -- src/check.rt:89:1
 returns-3 : tie.Need-returns-3
-returns-3 c = ?
+returns-3 c = λ net bs x y ex ey ec. sym (found-zero-open net bs x y (sym ex ∙ c .before .before .enum-told2 .given .1) (λ z. let q : _≡_ {A = Judgement} Judgement.NotAllowed Judgement.StaysOpen = sym z ∙ sym ey ∙ c .enum-told4 .given .1 in let k : _≡_ {A = ℕ} 0 1 = cc in omega arith))
 
 -- src/check.rt:89:1
 returns-4 : tie.Need-returns-4
-returns-4 c = ?
+returns-4 c = λ net bs x y ex ey ec. sym (found-zero-open net bs x y (sym ex ∙ c .before .before .enum-told2 .given .1) (λ z. let q : _≡_ {A = Judgement} Judgement.NotAllowed Judgement.Closes = sym z ∙ sym ey ∙ c .enum-told5 .given .1 in let k : _≡_ {A = ℕ} 0 1 = cc in omega arith))
 
 -- src/check.rt:89:1
 returns-5 : tie.Need-returns-5
-returns-5 c = ?
+returns-5 c = λ net bs x y ex ey ec. sym (found-one-refused net bs x y (sym ey ∙ c .enum-told7 .given .1))
 
 -- src/check.rt:89:1
 returns-6 : tie.Need-returns-6
-returns-6 c = ?
+returns-6 c = λ net bs x y ex ey ec. sym (found-one-open net bs x y (sym ex ∙ c .before .before .enum-told6 .given .1) (sym ey ∙ c .enum-told8 .given .1))
 
 -- src/check.rt:89:1
 returns-7 : tie.Need-returns-7
-returns-7 c = ?
+returns-7 c = λ net bs x y ex ey ec. ap accepted ec ∙ sym (found-closed net bs x y (sym ex ∙ c .before .before .enum-told6 .given .1) (sym ey ∙ c .enum-told9 .given .1))
 
 pub verdict-of-spec : {M : Type 1} → statement M
 verdict-of-spec =
