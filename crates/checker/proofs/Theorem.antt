@@ -14,7 +14,7 @@ use Rattle.checker.proofs.Model.{Model, run-model}
 use Rattle.checker.proofs.TraceSoundness.{dies-same}
 use Rattle.checker.proofs.VerdictLaws.{Accepted, Closes, accepted-says}
 use Rattle.checker.specs.Certificate.{cOf, fOf, faultOf, framesOf, splitFrame, splitNode}
-use Rattle.checker.specs.Checker.{accepted, checkerCall, checking, closes}
+use Rattle.checker.specs.Checker.{CheckerCall, accepted, checkerCall, checking, closes}
 use Rattle.checker.specs.Statement.{EqualOutputs, Redundant}
 use Rattle.checker.specs.Trace.{effectDies}
 use Rattle.checker.specs.Window.{known, presentBelow}
@@ -22,6 +22,7 @@ use Rattle.circuit.proofs.BoolLaws.{and-left}
 use Rattle.circuit.proofs.ClockLaws.{Ordered, sound-ordered}
 use Rattle.circuit.proofs.GateLaws.{Refines}
 use Rattle.circuit.proofs.RunLaws.{latchedAfter-binary}
+use Rattle.circuit.specs.Answer.{Answer, Outcome, outcome}
 use Rattle.circuit.specs.ClockLists.{InputBits, LatchedBits, latchedAfter, latchedBefore}
 use Rattle.circuit.specs.Fault.{StuckLines, linesOf, noneStuck}
 use Rattle.circuit.specs.Lists.{at}
@@ -114,3 +115,8 @@ accepted-redundant nb bs v w c e =
     place =
         ltb-true (splitNode bs) (netOf nb .size)
         (and-left (ltb (splitNode bs) (netOf nb .size)) (ltb (splitFrame bs) (framesOf bs)) (a .ready .passed .1 .1 .1 .1 .0))
+
+-- So a call that answers as the checker does says of each accepted certificate that its fault is redundant: both promises of `check`.
+pub answer-means : (a : CheckerCall) {x : Answer} {f g : List ℕ} → outcome x f g ≡ checking a → (outcome x f g ≡ checking a) × ((c : ℕ) → x ≡ accepted c → Redundant (a .netlist) (faultOf (a .certificate)) c)
+answer-means a e =
+    (e, λ c h. accepted-redundant (a .netlist) (a .certificate) (a .first) (a .second) c (ap (λ (o : Outcome). o .answer) (sym e) ∙ h))

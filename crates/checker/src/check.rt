@@ -1,5 +1,5 @@
 // The checker: reads a certificate's steps one after the other, and judges whether both branches close.
-ghost use lib.Dec.{leb};
+ghost use lib.Dec.{leb, ltb};
 ghost use mathlib.Core.Bool.{_&&_, true};
 ghost use mathlib.Core.List.{List};
 ghost use mathlib.Core.Option.{Option};
@@ -120,6 +120,22 @@ fn judge(netlist: &[u8], n: u16, certificate: &[u8], w: u16, known: &mut [u8], m
     verdict_of(zero, one, head.c)
 }
 
+// Both work slices have room for the window.
+fn slices_fit(size: usize, first: &[u8], second: &[u8]) -> bool
+    ensures { λ r. ⌜ r ≡ (leb size (length (now (first .entry))) && leb size (length (now (second .entry)))) ⌝ }
+{
+    size <= first.len() && size <= second.len()
+}
+
+// The split is at a node of the circuit and a frame of the window.
+fn split_within(head: Head, n: u16, w: u16) -> bool
+    ensures { λ r. ⌜ r ≡ (ltb (head .node) n && ltb (head .frame) w) ⌝ }
+{
+    let node = head.node;
+    let frame = head.frame as u16;
+    node < n && frame < w
+}
+
 // Whether the certificate is accepted. Each refusal is looked for before the next.
 pub fn check(netlist: &[u8], certificate: &[u8], first: &mut [u8], second: &mut [u8]) -> Checked
     ensures { λ r. ⌜ outcome (checkedSays r) (now (first .exit)) (now (second .exit)) ≡ checking (checkerCall (now (netlist .entry)) (now (certificate .entry)) (now (first .entry)) (now (second .entry))) ⌝ }
@@ -142,10 +158,10 @@ pub fn check(netlist: &[u8], certificate: &[u8], first: &mut [u8], second: &mut 
         return Checked::Refused(10);
     }
     let size = n as usize * w as usize;
-    if !(size <= first.len() && size <= second.len()) {
+    if !slices_fit(size, first, second) {
         return Checked::Refused(11);
     }
-    if !(head.node < n && (head.frame as u16) < w) {
+    if !split_within(head, n, w) {
         return Checked::Refused(13);
     }
     judge(netlist, n, certificate, w, &mut first[..size], &mut second[..size])
