@@ -21,7 +21,12 @@ abbrev pub readNumber : Answer → ℕ
 readNumber (refused k) = k
 readNumber (answered vs) = 4294967296 + 65536 * at vs 0 + at vs 1
 
--- what a simulator call leaves: the number of its answer, and the bytes of both slices
+-- the checker's answer: the refusal's number, or 2^32 + c for accepted with c
+abbrev pub checkNumber : Answer → ℕ
+checkNumber (refused k) = k
+checkNumber (answered vs) = 4294967296 + at vs 0
+
+-- what a call of the simulator or of the checker leaves: the number of its answer, and the bytes of both slices
 pub record NumberedOutcome : Type 0 where
   pub number : ℕ
   pub first : List ℕ
@@ -30,6 +35,5 @@ pub record NumberedOutcome : Type 0 where
 abbrev pub numberedOutcome : ℕ → List ℕ → List ℕ → NumberedOutcome
 numberedOutcome r v w = record { number = r; first = v; second = w }
 
--- done is 0
-abbrev pub numbered : Outcome → NumberedOutcome
-numbered o = numberedOutcome (numberOf (o .answer)) (o .first) (o .second)
+abbrev pub numberedBy : (Answer → ℕ) → Outcome → NumberedOutcome
+numberedBy number o = numberedOutcome (number (o .answer)) (o .first) (o .second)

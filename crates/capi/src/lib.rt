@@ -2,10 +2,15 @@
 // pointer and then a length: the caller sees that the pointer is valid for that length and that a
 // slice that is written overlaps no other. Any numbers and any bytes then get an answer.
 ghost use mathlib.Core.Path.{_≡_};
+ghost use Prim.Native.Nat.{ℕ, _+_};
 ghost use Rattle.circuit.specs.Answer.{numberOf};
 ghost use Rattle.circuit.specs.Netlist.{reading, readingSays};
 ghost use Rattle.circuit.specs.Clock.{simulatorCall, simulation, steppedSays};
-ghost use Rattle.capi.specs.Numbers.{circuitOf, readNumber, numberedOutcome, numbered};
+ghost use Rattle.capi.specs.Numbers.{checkNumber, circuitOf, numberedBy, numberedOutcome, readNumber};
+ghost use Rattle.checker.specs.Certificate.{faultOf};
+ghost use Rattle.checker.specs.Statement.{Redundant};
+ghost use Rattle.checker.specs.Checker.{accepted, checkedSays, checkerCall, checking};
+use checker::Checked;
 use circuit::Circuit;
 use circuit::Fault;
 use circuit::Reading;
@@ -43,6 +48,16 @@ fn number_of_step(answer: Stepped) -> u64
     }
 }
 
+fn number_of_check(answer: Checked) -> u64
+    ensures { λ r. ⌜ r ≡ checkNumber (checkedSays answer) ⌝ }
+    ensures { λ r. ⌜ ((c : ℕ) → r ≡ 4294967296 + c → checkedSays answer ≡ accepted c) ⌝ }
+{
+    match answer {
+        Checked::Accepted(c) => 4294967296 + c as u64,
+        Checked::Refused(number) => number as u64,
+    }
+}
+
 // Whether a netlist is sound: the refusal's number, or 2^32 + 65,536 × N + P.
 #[no_mangle]
 pub extern "C" fn leverpeach_read(netlist: &[u8]) -> u64
@@ -63,8 +78,23 @@ pub extern "C" fn leverpeach_simulate(
     first: &mut [u8],
     second: &mut [u8],
 ) -> u64
-    ensures { λ r. ⌜ numberedOutcome r (now (first .exit)) (now (second .exit)) ≡ numbered (simulation (simulatorCall (now (netlist .entry)) (circuitOf faulted node site u) (now (first .entry)) (now (second .entry)))) ⌝ }
+    ensures { λ r. ⌜ numberedOutcome r (now (first .exit)) (now (second .exit)) ≡ numberedBy numberOf (simulation (simulatorCall (now (netlist .entry)) (circuitOf faulted node site u) (now (first .entry)) (now (second .entry)))) ⌝ }
 {
     let circuit = circuit_of(faulted, node, site, u);
     number_of_step(circuit::simulate(netlist, circuit, first, second))
+}
+
+// Whether a certificate is accepted: the refusal's number, or 2^32 + c. Then the fault of the
+// certificate is shown by no pattern from clock c on.
+#[no_mangle]
+pub extern "C" fn leverpeach_check(
+    netlist: &[u8],
+    certificate: &[u8],
+    first: &mut [u8],
+    second: &mut [u8],
+) -> u64
+    ensures { λ r. ⌜ numberedOutcome r (now (first .exit)) (now (second .exit)) ≡ numberedBy checkNumber (checking (checkerCall (now (netlist .entry)) (now (certificate .entry)) (now (first .entry)) (now (second .entry)))) ⌝ }
+    ensures { λ r. ⌜ ((c : ℕ) → r ≡ 4294967296 + c → Redundant (now (netlist .entry)) (faultOf (now (certificate .entry))) c) ⌝ }
+{
+    number_of_check(checker::check(netlist, certificate, first, second))
 }

@@ -14,7 +14,7 @@ use Rattle.checker.specs.Certificate.{stepOf, stepsIn}
 use Rattle.checker.specs.Checker.{closes, follows, judgement, replay}
 use Rattle.checker.specs.Trace.{effectDies}
 use Rattle.checker.specs.Window.{Branch, Entered, Holds, begin, enter, enterAt, entered, held, known, knownIn, presentBelow}
-use Rattle.checker.specs.declared.check.Judgement.{Judgement}
+use Rattle.checker.specs.declared.verdict.Judgement.{Judgement}
 use Rattle.checker.specs.declared.step.Step.{Step}
 use Rattle.circuit.proofs.ClockLaws.{Ordered}
 use Rattle.circuit.specs.Fault.{StuckLines}

@@ -11,7 +11,7 @@ use borrow.Author.Tests.{eq-eqb, eqb-false, eqb-true, lt-ltb, ltb-true, ne-eqb, 
 use Rattle.checker.specs.Certificate.{cOf, fOf, faultOf, framesOf, splitFrame, splitNode, stepsOf}
 use Rattle.checker.specs.Checker.{CheckerCall, accepted, branchCloses, checkerTests, checking, follows, judged, judgement, replay, replayed, sameStep, stepWithin, turnedBack, verdict}
 use Rattle.checker.specs.Window.{Branch, begin, conclusion, enter, inForce, known, presentBelow}
-use Rattle.checker.specs.declared.check.Judgement.{Judgement}
+use Rattle.checker.specs.declared.verdict.Judgement.{Judgement}
 use Rattle.checker.specs.declared.step.Step.{Step}
 use Rattle.circuit.proofs.BoolLaws.{and-left, and-right}
 use Rattle.circuit.proofs.ListLaws.{any-by, any-found}

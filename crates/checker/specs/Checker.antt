@@ -12,8 +12,8 @@ use Rattle.circuit.specs.Netlist.{Net, netOf, reading}
 use Rattle.checker.specs.Certificate.{cOf, fOf, faultOf, framesOf, headLength, pairsRight, splitFrame, splitNode, stepsOf}
 use Rattle.checker.specs.Trace.{cleared, effectDies}
 use Rattle.checker.specs.Window.{Branch, begin, conclusion, enter, inForce, known, presentBelow}
-use Rattle.checker.specs.declared.check.Checked.{Checked}
-use Rattle.checker.specs.declared.check.Judgement.{Judgement}
+use Rattle.checker.specs.declared.verdict.Checked.{Checked}
+use Rattle.checker.specs.declared.verdict.Judgement.{Judgement}
 use Rattle.checker.specs.declared.step.Step.{Step}
 
 -- the same line, frame and value

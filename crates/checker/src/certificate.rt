@@ -54,13 +54,19 @@ pub fn head_of(certificate: &[u8]) -> Head
 pub fn run_offset(certificate: &[u8], v: u8) -> u32
     ensures { λ r. ⌜ r ≡ runOffset (now (certificate .entry)) v ⌝ }
 {
-    u32_at(circuit::tail(certificate, FAULT_LENGTH), 5 + 8 * (v as usize))
+    u32_at(
+        circuit::tail(certificate, FAULT_LENGTH),
+        5 + 8 * (v as usize),
+    )
 }
 
 pub fn run_length(certificate: &[u8], v: u8) -> u32
     ensures { λ r. ⌜ r ≡ runLength (now (certificate .entry)) v ⌝ }
 {
-    u32_at(circuit::tail(certificate, FAULT_LENGTH), 9 + 8 * (v as usize))
+    u32_at(
+        circuit::tail(certificate, FAULT_LENGTH),
+        9 + 8 * (v as usize),
+    )
 }
 
 // The certificate has its head, the second run follows the first, the file ends with the second, and
@@ -76,5 +82,7 @@ pub fn layout_right(certificate: &[u8]) -> bool
     let middle = run_offset(certificate, 1) as u64;
     let start = run_offset(certificate, 0) as u64;
     let length = certificate.len() as u64;
-    start == 25 && (middle == 25 + first && (length == middle + second && (first % 7 == 0 && second % 7 == 0)))
+    start == 25
+        && (middle == 25 + first
+            && (length == middle + second && (first % 7 == 0 && second % 7 == 0)))
 }

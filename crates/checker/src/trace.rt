@@ -13,8 +13,8 @@ ghost use Rattle.checker.specs.Window.{knownIn};
 ghost use Rattle.checker.specs.Trace.{effectDies, gateMark, latchedMark, latchedMarks, latchedUntouched, mark, marksList, nodeMark, outputUntouched, pinMark, siteMark, someMark, traced, tracing, untouchedValue};
 use crate::window::place_of;
 use circuit::Circuit;
-use circuit::Fault;
 use circuit::FLIP_FLOP;
+use circuit::Fault;
 use circuit::NOT_STUCK;
 use circuit::OUTPUT;
 use circuit::UNKNOWN;
@@ -40,7 +40,15 @@ fn mark_below(marks: &[u8], limit: u16, node: u16) -> u8
 }
 
 // A pin is touched if its source is, and a faulted one by the rule for faulted lines.
-fn pin_mark(netlist: &[u8], circuit: Circuit, values: &[u8], marks: &[u8], limit: u16, node: u16, pin: u16) -> u8
+fn pin_mark(
+    netlist: &[u8],
+    circuit: Circuit,
+    values: &[u8],
+    marks: &[u8],
+    limit: u16,
+    node: u16,
+    pin: u16,
+) -> u8
     ensures { λ r. ⌜ r ≡ pinMark (netOf (now (netlist .entry))) (linesIn circuit) (at (now (values .entry))) (at (take limit (now (marks .entry)))) node pin (sourceOf (now (netlist .entry)) node pin) ⌝ }
 {
     let source = circuit::source_of(netlist, node, pin);
@@ -50,7 +58,14 @@ fn pin_mark(netlist: &[u8], circuit: Circuit, values: &[u8], marks: &[u8], limit
 }
 
 // Whether one of a node's pins is touched.
-fn some_pin_touched(netlist: &[u8], circuit: Circuit, values: &[u8], marks: &[u8], limit: u16, node: u16) -> bool
+fn some_pin_touched(
+    netlist: &[u8],
+    circuit: Circuit,
+    values: &[u8],
+    marks: &[u8],
+    limit: u16,
+    node: u16,
+) -> bool
     ensures { λ r. ⌜ r ≡ someMark (indexed (pinMark (netOf (now (netlist .entry))) (linesIn circuit) (at (now (values .entry))) (at (take limit (now (marks .entry)))) node) 0 (netOf (now (netlist .entry)) .pins node)) ⌝ }
 {
     let mut pin = circuit::length_of(netlist, node);
@@ -64,7 +79,15 @@ fn some_pin_touched(netlist: &[u8], circuit: Circuit, values: &[u8], marks: &[u8
 }
 
 // What a pin is known to read if it is untouched; a touched one is unknown.
-fn untouched_value(netlist: &[u8], circuit: Circuit, values: &[u8], marks: &[u8], limit: u16, node: u16, pin: u16) -> u8
+fn untouched_value(
+    netlist: &[u8],
+    circuit: Circuit,
+    values: &[u8],
+    marks: &[u8],
+    limit: u16,
+    node: u16,
+    pin: u16,
+) -> u8
     ensures { λ r. ⌜ r ≡ untouchedValue (pinMark (netOf (now (netlist .entry))) (linesIn circuit) (at (now (values .entry))) (at (take limit (now (marks .entry)))) node pin (sourceOf (now (netlist .entry)) node pin)) (at (now (values .entry)) (sourceOf (now (netlist .entry)) node pin)) ⌝ }
 {
     if pin_mark(netlist, circuit, values, marks, limit, node, pin) != 0 {
@@ -75,7 +98,14 @@ fn untouched_value(netlist: &[u8], circuit: Circuit, values: &[u8], marks: &[u8]
 }
 
 // What a node makes of its untouched pins.
-fn untouched_gate(netlist: &[u8], circuit: Circuit, values: &[u8], marks: &[u8], limit: u16, node: u16) -> u8
+fn untouched_gate(
+    netlist: &[u8],
+    circuit: Circuit,
+    values: &[u8],
+    marks: &[u8],
+    limit: u16,
+    node: u16,
+) -> u8
     ensures { λ r. ⌜ r ≡ gate (kindOf (now (netlist .entry)) node) (indexed (λ k m. untouchedValue (pinMark (netOf (now (netlist .entry))) (linesIn circuit) (at (now (values .entry))) (at (take limit (now (marks .entry)))) node k m) (at (now (values .entry)) m)) 0 (netOf (now (netlist .entry)) .pins node)) ⌝ }
 {
     let rule = circuit::rule_of(circuit::kind_of(netlist, node));
@@ -91,13 +121,24 @@ fn untouched_gate(netlist: &[u8], circuit: Circuit, values: &[u8], marks: &[u8],
 }
 
 // A node with a touched pin is touched unless its untouched pins settle its value.
-fn gate_mark(netlist: &[u8], circuit: Circuit, values: &[u8], marks: &[u8], limit: u16, node: u16) -> u8
+fn gate_mark(
+    netlist: &[u8],
+    circuit: Circuit,
+    values: &[u8],
+    marks: &[u8],
+    limit: u16,
+    node: u16,
+) -> u8
     ensures { λ r. ⌜ r ≡ gateMark (netOf (now (netlist .entry))) (linesIn circuit) (at (now (values .entry))) (at (take limit (now (marks .entry)))) node ⌝ }
 {
     if !some_pin_touched(netlist, circuit, values, marks, limit, node) {
         return 0;
     }
-    if untouched_gate(netlist, circuit, values, marks, limit, node) < UNKNOWN { 0 } else { 1 }
+    if untouched_gate(netlist, circuit, values, marks, limit, node) < UNKNOWN {
+        0
+    } else {
+        1
+    }
 }
 
 // The mark of a node, where its own place holds what its flip-flop latched, and the places below it
@@ -114,7 +155,11 @@ fn node_mark(netlist: &[u8], circuit: Circuit, values: &[u8], marks: &[u8], node
     if circuit::is_given(kind) {
         return site_mark(stuck, value, 0);
     }
-    site_mark(stuck, value, gate_mark(netlist, circuit, values, marks, node, node))
+    site_mark(
+        stuck,
+        value,
+        gate_mark(netlist, circuit, values, marks, node, node),
+    )
 }
 
 // Puts each node's mark into its place, by rising node number.
@@ -132,13 +177,24 @@ fn mark_nodes(netlist: &[u8], n: u16, circuit: Circuit, values: &[u8], marks: &m
 }
 
 // The mark of a flip-flop in the next frame: whether its pin is touched in this one. No other node has one.
-fn latched_mark(netlist: &[u8], n: u16, circuit: Circuit, values: &[u8], marks: &[u8], node: u16) -> u8
+fn latched_mark(
+    netlist: &[u8],
+    n: u16,
+    circuit: Circuit,
+    values: &[u8],
+    marks: &[u8],
+    node: u16,
+) -> u8
     ensures { λ r. ⌜ r ≡ latchedMark (netOf (now (netlist .entry))) (linesIn circuit) (at (now (values .entry))) (at (take n (now (marks .entry)))) node ⌝ }
 {
     if circuit::kind_of(netlist, node) != FLIP_FLOP {
         return 0;
     }
-    if some_pin_touched(netlist, circuit, values, marks, n, node) { 1 } else { 0 }
+    if some_pin_touched(netlist, circuit, values, marks, n, node) {
+        1
+    } else {
+        0
+    }
 }
 
 // Copies the second n bytes over the first.
@@ -205,7 +261,14 @@ fn pins_untouched(netlist: &[u8], n: u16, circuit: Circuit, values: &[u8], marks
 
 // Puts the marks of a frame into the first n bytes, which hold those of its flip-flops, and says
 // whether no output is touched.
-fn mark_frame(netlist: &[u8], n: u16, circuit: Circuit, known: &[u8], frame: u16, marks: &mut [u8]) -> bool
+fn mark_frame(
+    netlist: &[u8],
+    n: u16,
+    circuit: Circuit,
+    known: &[u8],
+    frame: u16,
+    marks: &mut [u8],
+) -> bool
     requires { ⌜ n ≡ netOf (now netlist) .size ⌝ }
     requires { ⌜ n ≤ length (now marks) ⌝ }
     ensures { λ _. ⌜ take n (now (marks .exit)) ≡ marksList (netOf (now (netlist .entry))) (linesIn circuit) (λ m. knownIn (now (known .entry)) (netOf (now (netlist .entry)) .size) m frame) (at (take n (now (marks .entry)))) ⌝ }
@@ -227,7 +290,14 @@ fn latch_frame(netlist: &[u8], n: u16, circuit: Circuit, known: &[u8], frame: u1
 }
 
 // Whether no flip-flop's pin is touched in a frame, whose marks the first n bytes hold.
-fn pins_die(netlist: &[u8], n: u16, circuit: Circuit, known: &[u8], frame: u16, marks: &[u8]) -> bool
+fn pins_die(
+    netlist: &[u8],
+    n: u16,
+    circuit: Circuit,
+    known: &[u8],
+    frame: u16,
+    marks: &[u8],
+) -> bool
     requires { ⌜ n ≡ netOf (now netlist) .size ⌝ }
     ensures { λ r. ⌜ r ≡ every (latchedUntouched (latchedMarks (netOf (now (netlist .entry))) (linesIn circuit) (λ m. knownIn (now (known .entry)) (netOf (now (netlist .entry)) .size) m frame) (at (take n (now (marks .entry)))))) (netOf (now (netlist .entry)) .size) ⌝ }
 {
@@ -236,7 +306,15 @@ fn pins_die(netlist: &[u8], n: u16, circuit: Circuit, known: &[u8], frame: u16, 
 }
 
 // Whether the effect dies, where the first n bytes hold the marks of the flip-flops at frame c.
-fn dies_from(netlist: &[u8], n: u16, fault: Fault, c: u8, f: u8, known: &[u8], marks: &mut [u8]) -> bool
+fn dies_from(
+    netlist: &[u8],
+    n: u16,
+    fault: Fault,
+    c: u8,
+    f: u8,
+    known: &[u8],
+    marks: &mut [u8],
+) -> bool
     requires { ⌜ n ≡ netOf (now netlist) .size ⌝ }
     requires { ⌜ n * (f + 1) ≤ length (now marks) ⌝ }
     ensures { λ r. ⌜ r ≡ effectDies (netOf (now (netlist .entry))) (knownIn (now (known .entry)) (netOf (now (netlist .entry)) .size)) f c (linesOf fault) (take n (now (marks .entry))) ⌝ }
@@ -253,11 +331,20 @@ fn dies_from(netlist: &[u8], n: u16, fault: Fault, c: u8, f: u8, known: &[u8], m
         frame += 1;
         left -= 1;
     }
-    mark_frame(netlist, n, circuit, known, frame, marks) && pins_die(netlist, n, circuit, known, frame, marks)
+    mark_frame(netlist, n, circuit, known, frame, marks)
+        && pins_die(netlist, n, circuit, known, frame, marks)
 }
 
 // The same from the fault frame on, where no flip-flop is touched yet. The marks are cleared afterwards.
-fn trace_window(netlist: &[u8], n: u16, fault: Fault, c: u8, f: u8, known: &[u8], marks: &mut [u8]) -> bool
+fn trace_window(
+    netlist: &[u8],
+    n: u16,
+    fault: Fault,
+    c: u8,
+    f: u8,
+    known: &[u8],
+    marks: &mut [u8],
+) -> bool
     requires { ⌜ n ≡ netOf (now netlist) .size ⌝ }
     requires { ⌜ n * (f + 1) ≡ length (now marks) ⌝ }
     ensures { λ r. ⌜ traced r (now (marks .exit)) ≡ traced (effectDies (netOf (now (netlist .entry))) (knownIn (now (known .entry)) (netOf (now (netlist .entry)) .size)) f c (linesOf fault) []) (replicate (length (now (marks .entry))) 0) ⌝ }
@@ -272,7 +359,14 @@ fn trace_window(netlist: &[u8], n: u16, fault: Fault, c: u8, f: u8, known: &[u8]
 // the last frame, c + f. What is known lies in bytes, frame by frame, one for each node. The marks
 // take as many bytes as there are nodes and frames from c on; a shorter slice stays as it is, and
 // nothing is said to die.
-pub fn effect_dies(netlist: &[u8], fault: Fault, c: u8, f: u8, known: &[u8], marks: &mut [u8]) -> bool
+pub fn effect_dies(
+    netlist: &[u8],
+    fault: Fault,
+    c: u8,
+    f: u8,
+    known: &[u8],
+    marks: &mut [u8],
+) -> bool
     ensures { λ r. ⌜ traced r (now (marks .exit)) ≡ tracing (netOf (now (netlist .entry))) (linesOf fault) c f (knownIn (now (known .entry)) (netOf (now (netlist .entry)) .size)) (now (marks .entry)) ⌝ }
 {
     let n = circuit::node_count(netlist);

@@ -43,7 +43,17 @@ fn hold_fault(netlist: &[u8], n: u16, w: u16, fault: Fault, c: u8, known: &mut [
 }
 
 // Begins a branch: the split has the value v. Says whether that contradicts a held value.
-pub(crate) fn begin_branch(netlist: &[u8], n: u16, w: u16, fault: Fault, c: u8, node: u16, frame: u8, v: u8, known: &mut [u8]) -> bool
+pub(crate) fn begin_branch(
+    netlist: &[u8],
+    n: u16,
+    w: u16,
+    fault: Fault,
+    c: u8,
+    node: u16,
+    frame: u8,
+    v: u8,
+    known: &mut [u8],
+) -> bool
     requires { ⌜ n ≡ netOf (now netlist) .size ⌝ }
     requires { ⌜ length (now known) ≡ n * w ⌝ }
     requires { ⌜ (fault .node < n) × (fault .stuck < 2) ⌝ }

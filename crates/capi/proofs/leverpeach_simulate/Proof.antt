@@ -1,5 +1,6 @@
 use mathlib.Core.Path.{_∙_, ap}
-use Rattle.capi.specs.Numbers.{numbered}
+use Rattle.circuit.specs.Answer.{numberOf}
+use Rattle.capi.specs.Numbers.{numberedBy}
 use borrow.Author.Needs.{needs}
 use Rattle.capi.proofs.leverpeach_simulate.Statement.{statement}
 use Rattle.capi.proofs.leverpeach_simulate.Tie as tie
@@ -31,7 +32,7 @@ same-length-2 c = search needs
 
 -- src/lib.rt:55:1
 returns : tie.Need-returns
-returns c = rw (c .number-of-step .ensures, ← c .before .before .before .before .before .before .before .before .circuit-of .ensures) (ap numbered (c .before .before .before .before .before .simulate .ensures))
+returns c = rw (c .number-of-step .ensures, ← c .before .before .before .before .before .before .before .before .circuit-of .ensures) (ap (numberedBy numberOf) (c .before .before .before .before .before .simulate .ensures))
 
 pub leverpeach-simulate-spec : {M : Type 1} → statement M
 leverpeach-simulate-spec =

@@ -84,8 +84,7 @@ loop-again c = let a = c .before .before .before .before .before .before .before
     let D = linesIn (l .circuit) in
     let m = take (a .n) (l .marks) in
     let e = sym (c .before .before .before .before .before .before .before .mark-frame .ensures .1) ∙ not-false _ (c .before .before .before .before .if1 .left) in
-    let q = c .before .before .latch-frame .ensures ∙ ap (λ (x : List ℕ). latchedMarks net D (λ i. kn i (l .frame)) (at x)) (c .before .before .before .before .before .before .before .mark-frame .ensures .0) in
-    (
+    let q = c .before .before .latch-frame .ensures ∙ ap (λ (x : List ℕ). latchedMarks net D (λ i. kn i (l .frame)) (at x)) (c .before .before .before .before .before .before .before .mark-frame .ensures .0) in (
       c .before .before .latch-frame .kept .1 .1 .1 .1 .1 .0 ∙ c .before .before .before .before .before .before .before .mark-frame .kept .1 .1 .1 .1 .1 .0 ∙ l .inv .0,
       omega (arith, l .inv .1, c .before .before .before .before .before .before .before .before .before .loop-test .taken),
       omega (arith, l .inv .2, c .before .before .before .before .before .before .before .before .before .loop-test .taken),

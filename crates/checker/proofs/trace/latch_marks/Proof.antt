@@ -65,8 +65,7 @@ loop-again c = let a = c .before .before .before .before .before .before .before
     let w = c .before .before .before .before .latched-mark .result in
     let h : a .n + l .node < length (l .marks) = omega (arith, c .before .before .before .before .before .before .before .before .before .before .before .pre .1, l .inv .1, c .before .before .before .before .before .before .loop-test .taken) in
     let g : a .n ≤ a .n + l .node = omega arith in
-    let e : w ≡ f (l .node) = c .before .before .before .before .latched-mark .ensures ∙ ap (λ (m : List ℕ). latchedMark net D v (at m) (l .node)) (l .inv .2) in
-    (
+    let e : w ≡ f (l .node) = c .before .before .before .before .latched-mark .ensures ∙ ap (λ (m : List ℕ). latchedMark net D v (at m) (l .node)) (l .inv .2) in (
       omega arith,
       rw (st .ensures) (simp length-set (l .inv .1)),
       rw (st .ensures) (take-set-le (a .n) (l .marks) (a .n + l .node) w g ∙ l .inv .2),

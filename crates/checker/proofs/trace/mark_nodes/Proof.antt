@@ -60,8 +60,7 @@ loop-again c = let a = c .before .before .before .before .before .before .before
     let f = markNext net D v (at d) in
     let l = c .before .before .before .before .before .before .before .loop in
     let st = c .before .before .store in
-    let h : l .node < length d = omega (arith, c .before .before .before .before .before .before .before .before .before .before .before .pre .1, c .before .before .before .before .before .before .loop-test .taken) in
-    (
+    let h : l .node < length d = omega (arith, c .before .before .before .before .before .before .before .before .before .before .before .pre .1, c .before .before .before .before .before .before .loop-test .taken) in (
       omega arith,
       rw (st .ensures) (simp length-set (l .inv .1)),
       rw (st .ensures, c .before .before .before .before .node-mark .ensures, l .inv .2, mark-turn net D v d (l .node) h) (build-store f d (l .node) h),

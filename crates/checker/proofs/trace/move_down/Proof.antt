@@ -62,8 +62,7 @@ loop-again c = let a = c .before .before .before .before .before .before .before
     let st = c .before .before .store in
     let v = c .before .before .before .before .byte-at .result in
     let h : l .node < length (l .marks) = omega (arith, c .before .before .before .before .before .before .before .before .before .pre, l .inv .1, c .before .before .before .before .before .before .loop-test .taken) in
-    let e : v ≡ at d (a .n + l .node) = c .before .before .before .before .byte-at .ensures ∙ l .inv .3 (a .n + l .node) (omega arith) in
-    (
+    let e : v ≡ at d (a .n + l .node) = c .before .before .before .before .byte-at .ensures ∙ l .inv .3 (a .n + l .node) (omega arith) in (
       omega arith,
       rw (st .ensures) (simp length-set (l .inv .1)),
       rw (st .ensures) (subst (λ (k : ℕ). Filled (λ j. at d (a .n + j)) 0 (l .node + 1) (set (l .marks) k v)) (zero-add (l .node)) (filled-more (λ j. at d (a .n + j)) 0 (l .node) v (l .marks) (rw zero-add h) e (l .inv .2))),

@@ -80,11 +80,10 @@ loop-again c = let a = c .before .before .before .before .before .before .before
     let g = c .before .before .before .before .before .before .rule-of .result .gate in
     let i = c .before .before .before .loop in
     let h : i .pin - 1 < lengthOf s (a .node) = omega (arith, i .inv .0, c .before .before .loop-test .taken) in
-    let e = c .before .untouched-value .ensures ∙ sym (by-pin-at s f (a .node) (i .pin - 1) h) in
-    (
+    let e = c .before .untouched-value .ensures ∙ sym (by-pin-at s f (a .node) (i .pin - 1) h) in (
       omega (arith, h),
       rw (c .join-of .ensures, e, i .inv .1)
-      (function-more g ms (i .pin) (c .before .before .loop-test .taken) (omega (arith, len, i .inv .0))),
+          (function-more g ms (i .pin) (c .before .before .loop-test .taken) (omega (arith, len, i .inv .0))),
     )
 
 -- src/trace.rt:90:5

@@ -54,8 +54,7 @@ returns c = let a = c .before .before .before .before .before .before .before .b
     let place = c .before .before .before .before .place-of .ensures ∙ ap (λ (x : ℕ). a .frame * x + a .node) size in
     let holds = c .before .before .before .before .before .before .before .hold-fault .ensures in
     let e : differ (known net S [] (a .node) (a .frame)) (a .v) ≡ true = ap (λ (x : ℕ). differ x (a .v)) (sym (start-known net S (a .w) (a .node) (a .frame) (a .v) hn ht) ∙ sym (holds (a .node) (a .frame) hn ht) ∙ sym (c .before .before .byte-at .ensures ∙ ap (at (c .before .before .before .before .before .before .before .hold-fault .last .1 .1 .1 .1 .1 .0)) place)) ∙ sym (c .before .values-differ .ensures) ∙ c .if1 .taken in
-    let b = begin-closed net S (a .w) (a .node) (a .frame) (a .v) e in
-    (
+    let b = begin-closed net S (a .w) (a .node) (a .frame) (a .v) e in (
       sym (ap (λ (x : Branch). x .closed) b),
       subst (λ (x : Branch). Holds net S (a .w) (x .values) (c .before .before .before .before .before .before .before .hold-fault .last .1 .1 .1 .1 .1 .0)) (sym b) holds,
     )
@@ -84,8 +83,7 @@ returns-2 c = let a = c .before .before .before .before .before .before .before 
     let bytes = c .before .before .before .before .before .before .before .before .before .before .before .hold-fault .last .1 .1 .1 .1 .1 .0 in
     let lb = c .before .before .before .before .before .before .before .before .before .before .before .hold-fault .kept .1 .1 .1 .1 .1 .0 ∙ c .before .before .before .before .before .before .before .before .before .before .before .before .before .before .before .pre .1 .0 ∙ ap (λ (x : ℕ). x * a .w) size in
     let st = c .before .before .store .ensures ∙ ap (λ (k : ℕ). set bytes k (a .v)) place in
-    let h = holds-set net S (a .w) (a .node) (a .frame) (a .v) (replicate (net .size * a .w) 2) bytes hn ht lb (length-replicate (net .size * a .w) 2) (split-known net S (a .w) (a .node) (a .frame) (a .v) (c .before .before .before .before .before .before .before .before .before .before .before .before .before .before .before .pre .1 .1 .1 .1 .2) e) holds in
-    (
+    let h = holds-set net S (a .w) (a .node) (a .frame) (a .v) (replicate (net .size * a .w) 2) bytes hn ht lb (length-replicate (net .size * a .w) 2) (split-known net S (a .w) (a .node) (a .frame) (a .v) (c .before .before .before .before .before .before .before .before .before .before .before .before .before .before .before .pre .1 .1 .1 .1 .2) e) holds in (
       sym (ap (λ (x : Branch). x .closed) b),
       subst (λ (x : Branch). Holds net S (a .w) (x .values) (c .before .before .store .last .0)) (sym b) (subst (λ (x : List ℕ). Holds net S (a .w) (set (replicate (net .size * a .w) 2) (a .frame * net .size + a .node) (a .v)) x) (sym st) h),
     )

@@ -57,8 +57,7 @@ loop-again c = let a = c .before .before .before .before .before .before .before
     let hf = c .before .before .hold-frame .ensures ∙ ap (λ (x : ℕ). set (l .known) (l .frame * x + f .node) (linesOf f .node (f .node))) size in
     let hn : f .node < net .size = omega (arith, size, c .before .before .before .before .before .before .before .before .before .before .before .before .pre .1 .1 .0 .0) in
     let ht : l .frame < a .w = omega (arith, c .before .before .before .before .before .before .before .before .before .before .before .before .pre .1 .1 .1, c .before .before .before .before .loop-test .taken) in
-    let v : linesOf f .node (f .node) ≡ stuckOr (linesOf f .node (f .node)) (getD (replicate (net .size * a .w) 2) (l .frame * net .size + f .node) 2) = held-value f (c .before .before .before .before .before .before .before .before .before .before .before .before .pre .1 .1 .0 .1) ∙ ap (stuckOr (linesOf f .node (f .node))) (sym (getD-replicate (net .size * a .w) (l .frame * net .size + f .node) 2 2 (place-within (net .size) (a .w) (f .node) (l .frame) hn ht))) in
-    (
+    let v : linesOf f .node (f .node) ≡ stuckOr (linesOf f .node (f .node)) (getD (replicate (net .size * a .w) 2) (l .frame * net .size + f .node) 2) = held-value f (c .before .before .before .before .before .before .before .before .before .before .before .before .pre .1 .1 .0 .1) ∙ ap (stuckOr (linesOf f .node (f .node))) (sym (getD-replicate (net .size * a .w) (l .frame * net .size + f .node) 2 2 (place-within (net .size) (a .w) (f .node) (l .frame) hn ht))) in (
       omega (arith, c .before .before .before .before .loop-test .taken),
       rw hf (simp length-set (l .inv .1)),
       rw hf (holds-frame net (linesOf f) (a .w) (l .frame) (f .node) (replicate (net .size * a .w) 2) (l .known) hn ht (l .inv .1) v (none-held f) (l .inv .2)),

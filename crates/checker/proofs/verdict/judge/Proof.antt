@@ -9,26 +9,26 @@ use Rattle.checker.specs.declared.certificate.Head.{Head}
 use Rattle.checker.specs.Checker.{replayed, verdict}
 use Rattle.checker.proofs.LayoutLaws.{runs-within}
 use borrow.Author.Needs.{needs}
-use Rattle.checker.proofs.check.judge.Statement.{statement}
-use Rattle.checker.proofs.check.judge.Tie as tie
-use Rattle.checker.proofs.check.judge.Reads as reads
-use Rattle.checker.proofs.check.judge.Lts as lts
+use Rattle.checker.proofs.verdict.judge.Statement.{statement}
+use Rattle.checker.proofs.verdict.judge.Tie as tie
+use Rattle.checker.proofs.verdict.judge.Reads as reads
+use Rattle.checker.proofs.verdict.judge.Lts as lts
 use Rattle.checker.proofs.certificate.head_of.Reads as head-of-reads
-use Rattle.checker.proofs.check.judge_run.Reads as judge-run-reads
-use Rattle.checker.proofs.check.verdict_of.Reads as verdict-of-reads
+use Rattle.checker.proofs.verdict.judge_run.Reads as judge-run-reads
+use Rattle.checker.proofs.verdict.verdict_of.Reads as verdict-of-reads
 use Rattle.circuit.proofs.fill.Reads as fill-reads
 
--- src/check.rt:115:9
+-- src/verdict.rt:115:9
 head-of-requires : tie.Need-head-of-requires
 head-of-requires c κs = search needs
 
--- src/check.rt:116:9
+-- src/verdict.rt:116:9
 judge-run-requires : tie.Need-judge-run-requires
 judge-run-requires c κs = let p = c .before .before .before .before .before .before .before .pre in
     let w = p .1 .1 .1 .0 in
     (p .0, (p .1 .0, (p .1 .1 .0, ((w .0, w .1, w .2, omega arith), runs-within (now (c .before .before .before .before .before .before .before .args .certificate)) (p .1 .1 .1 .1) 0 (omega arith)))))
 
--- src/check.rt:117:9
+-- src/verdict.rt:117:9
 judge-run-requires-2 : tie.Need-judge-run-requires-2
 judge-run-requires-2 c κs = let p = c .before .before .before .before .before .before .before .before .before .before .before .before .before .before .pre in
     let w = p .1 .1 .1 .0 in
@@ -36,27 +36,27 @@ judge-run-requires-2 c κs = let p = c .before .before .before .before .before .
     let m = c .before .before .before .before .before .before .judge-run .kept .1 .1 .1 .1 .1 .1 .0 in
     (p .0, ((k ∙ p .1 .0 .0, m ∙ p .1 .0 .1), (p .1 .1 .0, ((w .0, w .1, w .2, omega arith), runs-within (now (c .before .before .before .before .before .before .before .before .before .before .before .before .before .before .args .certificate)) (p .1 .1 .1 .1) 1 (omega arith)))))
 
--- src/check.rt:118:5
+-- src/verdict.rt:118:5
 fill-requires : tie.Need-fill-requires
 fill-requires c κs = search needs
 
--- src/check.rt:119:5
+-- src/verdict.rt:119:5
 fill-requires-2 : tie.Need-fill-requires-2
 fill-requires-2 c κs = search needs
 
--- src/check.rt:120:5
+-- src/verdict.rt:120:5
 verdict-of-requires : tie.Need-verdict-of-requires
 verdict-of-requires c κs = search needs
 
--- src/check.rt:107:1
+-- src/verdict.rt:107:1
 same-length : tie.Need-same-length
 same-length c = search needs
 
--- src/check.rt:107:1
+-- src/verdict.rt:107:1
 same-length-2 : tie.Need-same-length-2
 same-length-2 c = search needs
 
--- src/check.rt:107:1
+-- src/verdict.rt:107:1
 returns : tie.Need-returns
 returns c = let a = c .before .before .before .before .before .before .before .before .before .before .before .before .before .before .before .before .before .before .before .before .before .before .before .before .before .before .before .before .args in
     let net = netOf (now (a .netlist)) in

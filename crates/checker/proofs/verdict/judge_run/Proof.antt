@@ -13,55 +13,54 @@ use Rattle.checker.specs.Window.{begin, presentBelow}
 use Rattle.checker.specs.Checker.{judgement, replay, replayed}
 use Rattle.checker.specs.Certificate.{framesOf, headOf, runLength, runOffset, stepsIn, stepsOf}
 use borrow.Author.Needs.{needs}
-use Rattle.checker.proofs.check.judge_run.Statement.{statement}
-use Rattle.checker.proofs.check.judge_run.Tie as tie
-use Rattle.checker.proofs.check.judge_run.Reads as reads
-use Rattle.checker.proofs.check.judge_run.Lts as lts
+use Rattle.checker.proofs.verdict.judge_run.Statement.{statement}
+use Rattle.checker.proofs.verdict.judge_run.Tie as tie
+use Rattle.checker.proofs.verdict.judge_run.Reads as reads
+use Rattle.checker.proofs.verdict.judge_run.Lts as lts
 use Rattle.checker.proofs.certificate.head_of.Reads as head-of-reads
 use Rattle.checker.proofs.certificate.run_length.Reads as run-length-reads
 use Rattle.checker.proofs.certificate.run_offset.Reads as run-offset-reads
-use Rattle.checker.proofs.check.judge_branch.Reads as judge-branch-reads
+use Rattle.checker.proofs.verdict.judge_branch.Reads as judge-branch-reads
 
--- src/check.rt:81:9
+-- src/verdict.rt:81:9
 head-of-requires : tie.Need-head-of-requires
 head-of-requires c κs = search needs
 
--- src/check.rt:82:18
+-- src/verdict.rt:82:18
 run-offset-requires : tie.Need-run-offset-requires
 run-offset-requires c κs = search needs
 
--- src/check.rt:82:18
+-- src/verdict.rt:82:18
 cast-offset : tie.Need-cast-offset
 cast-offset c = search needs
 
--- src/check.rt:83:17
+-- src/verdict.rt:83:17
 run-length-requires : tie.Need-run-length-requires
 run-length-requires c κs = search needs
 
--- src/check.rt:83:17
+-- src/verdict.rt:83:17
 cast-steps : tie.Need-cast-steps
 cast-steps c = search needs
 
--- src/check.rt:84:42
+-- src/verdict.rt:84:42
 sub-judge-branch : tie.Need-sub-judge-branch
 sub-judge-branch c = search needs
 
--- src/check.rt:84:42
+-- src/verdict.rt:84:42
 part-judge-branch-start : tie.Need-part-judge-branch-start
 part-judge-branch-start c = search needs
 
--- src/check.rt:84:42
+-- src/verdict.rt:84:42
 part-judge-branch-end : tie.Need-part-judge-branch-end
 part-judge-branch-end c = search needs
 
--- src/check.rt:84:5
+-- src/verdict.rt:84:5
 judge-branch-requires : tie.Need-judge-branch-requires
 judge-branch-requires c κs = let a = c .before .before .before .before .before .before .before .before .before .before .args in
     let net = netOf (now (a .netlist)) in
     let e = c .before .before .before .before .before .head-of .ensures in
     let p = c .before .before .before .before .before .before .before .before .before .before .pre in
-    let w = p .1 .1 .1 .0 in
-    (
+    let w = p .1 .1 .1 .0 in (
       p .0,
       (
         p .1 .0,
@@ -80,15 +79,15 @@ judge-branch-requires c κs = let a = c .before .before .before .before .before 
       ),
     )
 
--- src/check.rt:73:1
+-- src/verdict.rt:73:1
 same-length : tie.Need-same-length
 same-length c = search needs
 
--- src/check.rt:73:1
+-- src/verdict.rt:73:1
 same-length-2 : tie.Need-same-length-2
 same-length-2 c = search needs
 
--- src/check.rt:73:1
+-- src/verdict.rt:73:1
 returns : tie.Need-returns
 unfolding replayed stepsOf
 returns c = let a = c .before .before .before .before .before .before .before .before .before .before .before .before .before .before .before .args in

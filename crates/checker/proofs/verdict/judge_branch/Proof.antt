@@ -15,16 +15,16 @@ use Rattle.circuit.specs.Fault.{linesOf}
 use Rattle.circuit.proofs.SoundLaws.{sound-size}
 use Rattle.circuit.proofs.ClockLaws.{sound-ordered}
 use Rattle.checker.specs.declared.step.Step.{Step}
-use Rattle.checker.specs.declared.check.Judgement.{Judgement}
+use Rattle.checker.specs.declared.verdict.Judgement.{Judgement}
 use Rattle.checker.specs.Window.{Branch, Entered, begin, enterAt, knownIn, presentBelow}
 use Rattle.checker.specs.Trace.{Traced, effectDies}
 use Rattle.checker.specs.Checker.{follows, judgement, replay}
 use Rattle.checker.specs.Certificate.{stepOf, stepsIn}
 use Rattle.checker.proofs.ReplayLaws.{Reached, after-contradiction, begin-full, judged-contradicted, judged-refused, judged-traced, not-following, step-entered, steps-more, steps-none}
-use Rattle.checker.proofs.check.judge_branch.Statement.{statement}
-use Rattle.checker.proofs.check.judge_branch.Tie as tie
-use Rattle.checker.proofs.check.judge_branch.Reads as reads
-use Rattle.checker.proofs.check.judge_branch.Lts as lts
+use Rattle.checker.proofs.verdict.judge_branch.Statement.{statement}
+use Rattle.checker.proofs.verdict.judge_branch.Tie as tie
+use Rattle.checker.proofs.verdict.judge_branch.Reads as reads
+use Rattle.checker.proofs.verdict.judge_branch.Lts as lts
 use Rattle.checker.proofs.follow.step_follows.Reads as step-follows-reads
 use Rattle.checker.proofs.step.step_at.Reads as step-at-reads
 use Rattle.checker.proofs.trace.effect_dies.Reads as effect-dies-reads
@@ -39,7 +39,7 @@ Inv-loop netlist n head w v run steps known₀ marks fault c closed₀ taken₀ 
 abbrev μ-loop : tie.MeasureT-loop
 μ-loop netlist n head w v run steps known₀ marks fault c closed₀ taken₀ known closed taken = steps - taken
 
--- src/check.rt:50:9
+-- src/verdict.rt:50:9
 begin-branch-requires : tie.Need-begin-branch-requires Inv-loop μ-loop
 begin-branch-requires c κs = let a = c .before .before .before .before .before .before .args in
     let s = now (a .netlist) in
@@ -54,7 +54,7 @@ begin-branch-requires c κs = let a = c .before .before .before .before .before 
     let fs = fault-says net (h .fault) (c .before .before .before .before .before .before .pre .1 .1 .0) in
     (size, (c .before .before .before .before .before .before .pre .1 .0 .0, ((omega (arith, fs .0, size), fs .1), (omega (arith, c .before .before .before .before .before .before .pre .1 .1 .1 .1 .0), (c .before .before .before .before .before .before .pre .1 .1 .1 .1 .1, c .before .before .before .before .before .before .pre .1 .1 .1 .1 .2, c .before .before .before .before .before .before .pre .1 .1 .1 .1 .3)))))
 
--- src/check.rt:52:5
+-- src/verdict.rt:52:5
 loop-holds : tie.Need-loop-holds Inv-loop μ-loop
 loop-holds c = let a = c .before .before .before .before .before .before .before .before .before .args in
     let s = now (a .netlist) in
@@ -67,8 +67,7 @@ loop-holds c = let a = c .before .before .before .before .before .before .before
     let size = sound-size s (a .n) (pinCount s) (c .before .before .before .before .before .before .before .before .before .pre .0) in
     let o = sound-ordered s (a .n) (pinCount s) (c .before .before .before .before .before .before .before .before .before .pre .0) in
     let m = c .before .before .before .before .before .before .before .before .before .pre .1 .0 .0 ∙ ap (λ (x : ℕ). x * a .w) size in
-    let z : a .steps ≡ a .steps - 0 = omega arith in
-    (
+    let z : a .steps ≡ a .steps - 0 = omega arith in (
       omega arith,
       c .before .before .begin-branch .kept .1 .1 .1 .1 .1 .1 .1 .1 .0 ∙ m,
       record {
@@ -80,23 +79,23 @@ loop-holds c = let a = c .before .before .before .before .before .before .before
       },
     )
 
--- src/check.rt:53:47
+-- src/verdict.rt:53:47
 mul-tail : tie.Need-mul-tail Inv-loop μ-loop
 mul-tail c = omega (arith, c .before .before .before .before .before .before .before .before .before .before .before .pre .1 .1 .1 .0)
 
--- src/check.rt:53:28
+-- src/verdict.rt:53:28
 tail-requires : tie.Need-tail-requires Inv-loop μ-loop
 tail-requires c κs = search needs
 
--- src/check.rt:53:13
+-- src/verdict.rt:53:13
 step-at-requires : tie.Need-step-at-requires Inv-loop μ-loop
 step-at-requires c κs = search needs
 
--- src/check.rt:55:13
+-- src/verdict.rt:55:13
 same-length : tie.Need-same-length Inv-loop μ-loop
 same-length c = c .before .before .before .before .loop .inv .1 ∙ sym (c .before .before .before .before .before .before .before .before .before .before .before .before .before .before .pre .1 .0 .0 ∙ ap (λ (x : ℕ). x * c .before .before .before .before .before .before .before .before .before .before .before .before .before .before .args .w) (sound-size (now (c .before .before .before .before .before .before .before .before .before .before .before .before .before .before .args .netlist)) (c .before .before .before .before .before .before .before .before .before .before .before .before .before .before .args .n) (pinCount (now (c .before .before .before .before .before .before .before .before .before .before .before .before .before .before .args .netlist))) (c .before .before .before .before .before .before .before .before .before .before .before .before .before .before .pre .0)))
 
--- src/check.rt:55:13
+-- src/verdict.rt:55:13
 returns : tie.Need-returns Inv-loop μ-loop
 returns c = let a = c .before .before .before .before .before .before .before .before .before .before .before .before .before .before .args in
     let s = now (a .netlist) in
@@ -115,15 +114,15 @@ returns c = let a = c .before .before .before .before .before .before .before .b
     let t = subst (λ (x : Bool). Reached net S (a .w) ss (st ∷ left) b₀ (l .known) x) (c .if1 .taken) r in
     judged-refused net o (linesOf (h .fault)) (h .c) (h .f) (a .w) ss b₀ (l .known) (after-contradiction net o S (a .w) ss left b₀ (l .known) st t)
 
--- src/check.rt:57:13
+-- src/verdict.rt:57:13
 step-follows-requires : tie.Need-step-follows-requires Inv-loop μ-loop
 step-follows-requires c κs = search needs
 
--- src/check.rt:58:13
+-- src/verdict.rt:58:13
 same-length-2 : tie.Need-same-length-2 Inv-loop μ-loop
 same-length-2 c = c .before .before .before .before .before .before .before .loop .inv .1 ∙ sym (c .before .before .before .before .before .before .before .before .before .before .before .before .before .before .before .before .before .pre .1 .0 .0 ∙ ap (λ (x : ℕ). x * c .before .before .before .before .before .before .before .before .before .before .before .before .before .before .before .before .before .args .w) (sound-size (now (c .before .before .before .before .before .before .before .before .before .before .before .before .before .before .before .before .before .args .netlist)) (c .before .before .before .before .before .before .before .before .before .before .before .before .before .before .before .before .before .args .n) (pinCount (now (c .before .before .before .before .before .before .before .before .before .before .before .before .before .before .before .before .before .args .netlist))) (c .before .before .before .before .before .before .before .before .before .before .before .before .before .before .before .before .before .pre .0)))
 
--- src/check.rt:58:13
+-- src/verdict.rt:58:13
 returns-2 : tie.Need-returns-2 Inv-loop μ-loop
 returns-2 c = let a = c .before .before .before .before .before .before .before .before .before .before .before .before .before .before .before .before .before .args in
     let s = now (a .netlist) in
@@ -144,27 +143,27 @@ returns-2 c = let a = c .before .before .before .before .before .before .before 
     let e = ap (follows net S (a .w) (knownIn (l .known) (net .size))) (sym q) ∙ sym (c .before .step-follows .ensures) ∙ not-true _ (c .if2 .taken) in
     judged-refused net o (linesOf (h .fault)) (h .c) (h .f) (a .w) ss b₀ (l .known) (not-following net o S (a .w) ss left b₀ (l .known) st t e)
 
--- src/check.rt:60:60
+-- src/verdict.rt:60:60
 cast-place-of : tie.Need-cast-place-of Inv-loop μ-loop
 cast-place-of c = search needs
 
--- src/check.rt:60:37
+-- src/verdict.rt:60:37
 place-of-requires : tie.Need-place-of-requires Inv-loop μ-loop
 place-of-requires c κs = search needs
 
--- src/check.rt:60:9
+-- src/verdict.rt:60:9
 enter-value-requires : tie.Need-enter-value-requires Inv-loop μ-loop
 enter-value-requires c κs = search needs
 
--- src/check.rt:61:9
+-- src/verdict.rt:61:9
 add-taken : tie.Need-add-taken Inv-loop μ-loop
 add-taken c = omega (arith, c .before .before .before .before .before .before .before .before .before .before .before .before .before .before .before .before .before .before .before .before .before .before .before .pre .1 .1 .1 .0)
 
--- src/check.rt:52:5
+-- src/verdict.rt:52:5
 loop-less : tie.Need-loop-less Inv-loop μ-loop
 loop-less c = omega arith
 
--- src/check.rt:52:5
+-- src/verdict.rt:52:5
 loop-again : tie.Need-loop-again Inv-loop μ-loop
 loop-again c = let a = c .before .before .before .before .before .before .before .before .before .before .before .before .before .before .before .before .before .before .before .before .before .before .before .args in
     let s = now (a .netlist) in
@@ -185,18 +184,17 @@ loop-again c = let a = c .before .before .before .before .before .before .before
     let e = ap (follows net S (a .w) (knownIn (l .known) (net .size))) (sym q) ∙ sym (c .before .before .before .before .before .before .before .step-follows .ensures) ∙ not-false _ (c .before .before .before .before .before .before .if2 .left) in
     let p = c .before .before .before .place-of .ensures ∙ (λ i. q i .frame * size i + q i .node) in
     let n = c .before .before .enter-value .ensures ∙ (λ i. enterAt (l .known) (p i) (q i .value)) in
-    let g = step-entered net o S (a .w) ss left b₀ (l .known) st (l .inv .1) t e in
-    (
+    let g = step-entered net o S (a .w) ss left b₀ (l .known) st (l .inv .1) t e in (
       omega (arith, c .before .before .before .before .before .before .before .before .before .before .before .before .loop-test .taken),
       c .before .before .enter-value .kept .0 ∙ l .inv .1,
       subst (λ (x : Entered). Reached net S (a .w) ss left b₀ (x .bytes) (x .closed)) (sym n) g,
     )
 
--- src/check.rt:64:9
+-- src/verdict.rt:64:9
 same-length-3 : tie.Need-same-length-3 Inv-loop μ-loop
 same-length-3 c = c .before .before .loop .inv .1 ∙ sym (c .before .before .before .before .before .before .before .before .before .before .before .before .pre .1 .0 .0 ∙ ap (λ (x : ℕ). x * c .before .before .before .before .before .before .before .before .before .before .before .before .args .w) (sound-size (now (c .before .before .before .before .before .before .before .before .before .before .before .before .args .netlist)) (c .before .before .before .before .before .before .before .before .before .before .before .before .args .n) (pinCount (now (c .before .before .before .before .before .before .before .before .before .before .before .before .args .netlist))) (c .before .before .before .before .before .before .before .before .before .before .before .before .pre .0)))
 
--- src/check.rt:64:9
+-- src/verdict.rt:64:9
 returns-3 : tie.Need-returns-3 Inv-loop μ-loop
 returns-3 c = let a = c .before .before .before .before .before .before .before .before .before .before .before .before .args in
     let s = now (a .netlist) in
@@ -214,19 +212,19 @@ returns-3 c = let a = c .before .before .before .before .before .before .before 
     let r = subst (λ (x : List Step). Reached net S (a .w) ss x b₀ (l .known) (l .closed)) (steps-none (a .steps) (l .taken) run (c .before .loop-test .left)) (l .inv .2) in
     judged-contradicted net o (linesOf (h .fault)) (h .c) (h .f) (a .w) ss b₀ (l .known) (subst (λ (x : Bool). Reached net S (a .w) ss [] b₀ (l .known) x) (c .if3 .taken) r)
 
--- src/check.rt:66:8
+-- src/verdict.rt:66:8
 effect-dies-requires : tie.Need-effect-dies-requires Inv-loop μ-loop
 effect-dies-requires c κs = search needs
 
--- src/check.rt:40:1
+-- src/verdict.rt:40:1
 same-length-4 : tie.Need-same-length-4 Inv-loop μ-loop
 same-length-4 c = c .before .before .before .before .before .before .before .before .loop .inv .1 ∙ sym (c .before .before .before .before .before .before .before .before .before .before .before .before .before .before .before .before .before .before .pre .1 .0 .0 ∙ ap (λ (x : ℕ). x * c .before .before .before .before .before .before .before .before .before .before .before .before .before .before .before .before .before .before .args .w) (sound-size (now (c .before .before .before .before .before .before .before .before .before .before .before .before .before .before .before .before .before .before .args .netlist)) (c .before .before .before .before .before .before .before .before .before .before .before .before .before .before .before .before .before .before .args .n) (pinCount (now (c .before .before .before .before .before .before .before .before .before .before .before .before .before .before .before .before .before .before .args .netlist))) (c .before .before .before .before .before .before .before .before .before .before .before .before .before .before .before .before .before .before .pre .0)))
 
--- src/check.rt:40:1
+-- src/verdict.rt:40:1
 same-length-5 : tie.Need-same-length-5 Inv-loop μ-loop
 same-length-5 c = c .before .before .before .effect-dies .kept .1 .1 .1 .1 .1 .0
 
--- src/check.rt:40:1
+-- src/verdict.rt:40:1
 returns-4 : tie.Need-returns-4 Inv-loop μ-loop
 returns-4 c = let a = c .before .before .before .before .before .before .before .before .before .before .before .before .before .before .before .before .before .before .args in
     let s = now (a .netlist) in
@@ -250,15 +248,15 @@ returns-4 c = let a = c .before .before .before .before .before .before .before 
     let d = ap (λ (x : Traced). x .dies) (c .before .before .before .effect-dies .ensures ∙ sym (tracing-long net (linesOf (h .fault)) (h .c) (h .f) kn (now (a .marks)) (omega (arith, g, m)))) in
     judged-traced net o (linesOf (h .fault)) (h .c) (h .f) (a .w) ss b₀ (l .known) (omega (arith, w)) true (sym (c .if4 .taken) ∙ d) t
 
--- src/check.rt:40:1
+-- src/verdict.rt:40:1
 same-length-6 : tie.Need-same-length-6 Inv-loop μ-loop
 same-length-6 c = c .before .before .before .before .before .before .before .before .loop .inv .1 ∙ sym (c .before .before .before .before .before .before .before .before .before .before .before .before .before .before .before .before .before .before .pre .1 .0 .0 ∙ ap (λ (x : ℕ). x * c .before .before .before .before .before .before .before .before .before .before .before .before .before .before .before .before .before .before .args .w) (sound-size (now (c .before .before .before .before .before .before .before .before .before .before .before .before .before .before .before .before .before .before .args .netlist)) (c .before .before .before .before .before .before .before .before .before .before .before .before .before .before .before .before .before .before .args .n) (pinCount (now (c .before .before .before .before .before .before .before .before .before .before .before .before .before .before .before .before .before .before .args .netlist))) (c .before .before .before .before .before .before .before .before .before .before .before .before .before .before .before .before .before .before .pre .0)))
 
--- src/check.rt:40:1
+-- src/verdict.rt:40:1
 same-length-7 : tie.Need-same-length-7 Inv-loop μ-loop
 same-length-7 c = c .before .before .before .effect-dies .kept .1 .1 .1 .1 .1 .0
 
--- src/check.rt:40:1
+-- src/verdict.rt:40:1
 returns-5 : tie.Need-returns-5 Inv-loop μ-loop
 returns-5 c = let a = c .before .before .before .before .before .before .before .before .before .before .before .before .before .before .before .before .before .before .args in
     let s = now (a .netlist) in

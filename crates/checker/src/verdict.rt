@@ -13,11 +13,11 @@ ghost use Rattle.checker.specs.Statement.{Redundant};
 ghost use Rattle.checker.specs.Window.{Branch, begin, presentBelow};
 ghost use Rattle.checker.specs.Certificate.{cOf, fOf, faultOf, framesOf, headLength, headOf, pairsRight, runOffset, splitFrame, splitNode, stepsIn};
 ghost use Rattle.checker.specs.Checker.{accepted, checkedSays, checkerCall, checking, judgement, replay, replayed, verdict};
+use crate::certificate::Head;
 use crate::certificate::head_of;
 use crate::certificate::layout_right;
 use crate::certificate::run_length;
 use crate::certificate::run_offset;
-use crate::certificate::Head;
 use crate::follow::step_follows;
 use crate::step::step_at;
 use crate::trace::effect_dies;
@@ -40,7 +40,17 @@ pub enum Judgement {
 }
 
 // Judges the branch of the value v, whose run has so many steps.
-fn judge_branch(netlist: &[u8], n: u16, head: Head, w: u16, v: u8, run: &[u8], steps: usize, known: &mut [u8], marks: &mut [u8]) -> Judgement
+fn judge_branch(
+    netlist: &[u8],
+    n: u16,
+    head: Head,
+    w: u16,
+    v: u8,
+    run: &[u8],
+    steps: usize,
+    known: &mut [u8],
+    marks: &mut [u8],
+) -> Judgement
     requires { ⌜ reading (now netlist) ≡ sound n (pinCount (now netlist)) ⌝ }
     requires { ⌜ (length (now known) ≡ n * w) × (length (now marks) ≡ n * w) ⌝ }
     requires { ⌜ faultExists (netOf (now netlist)) (head .fault) ≡ true ⌝ }
@@ -66,11 +76,23 @@ fn judge_branch(netlist: &[u8], n: u16, head: Head, w: u16, v: u8, run: &[u8], s
     if closed {
         return Judgement::Closes;
     }
-    if effect_dies(netlist, fault, c, head.f, known, marks) { Judgement::Closes } else { Judgement::StaysOpen }
+    if effect_dies(netlist, fault, c, head.f, known, marks) {
+        Judgement::Closes
+    } else {
+        Judgement::StaysOpen
+    }
 }
 
 // Judges branch v, whose steps stand in the certificate's part from the offset of its pair on.
-fn judge_run(netlist: &[u8], n: u16, certificate: &[u8], w: u16, v: u8, known: &mut [u8], marks: &mut [u8]) -> Judgement
+fn judge_run(
+    netlist: &[u8],
+    n: u16,
+    certificate: &[u8],
+    w: u16,
+    v: u8,
+    known: &mut [u8],
+    marks: &mut [u8],
+) -> Judgement
     requires { ⌜ reading (now netlist) ≡ sound n (pinCount (now netlist)) ⌝ }
     requires { ⌜ (length (now known) ≡ n * w) × (length (now marks) ≡ n * w) ⌝ }
     requires { ⌜ faultExists (netOf (now netlist)) (faultOf (now certificate)) ≡ true ⌝ }
@@ -81,7 +103,17 @@ fn judge_run(netlist: &[u8], n: u16, certificate: &[u8], w: u16, v: u8, known: &
     let head = head_of(certificate);
     let offset = run_offset(certificate, v) as usize;
     let steps = run_length(certificate, v) as usize / 7;
-    judge_branch(netlist, n, head, w, v, &certificate[offset..], steps, known, marks)
+    judge_branch(
+        netlist,
+        n,
+        head,
+        w,
+        v,
+        &certificate[offset..],
+        steps,
+        known,
+        marks,
+    )
 }
 
 // The answer, from what was found of the two branches.
@@ -104,7 +136,14 @@ fn verdict_of(zero: Judgement, one: Judgement, c: u8) -> Checked
 }
 
 // Judges both branches: 14 in either comes before 15. Both work slices are cleared afterwards.
-fn judge(netlist: &[u8], n: u16, certificate: &[u8], w: u16, known: &mut [u8], marks: &mut [u8]) -> Checked
+fn judge(
+    netlist: &[u8],
+    n: u16,
+    certificate: &[u8],
+    w: u16,
+    known: &mut [u8],
+    marks: &mut [u8],
+) -> Checked
     requires { ⌜ reading (now netlist) ≡ sound n (pinCount (now netlist)) ⌝ }
     requires { ⌜ (length (now known) ≡ n * w) × (length (now marks) ≡ n * w) ⌝ }
     requires { ⌜ faultExists (netOf (now netlist)) (faultOf (now certificate)) ≡ true ⌝ }
@@ -164,5 +203,12 @@ pub fn check(netlist: &[u8], certificate: &[u8], first: &mut [u8], second: &mut 
     if !split_within(head, n, w) {
         return Checked::Refused(13);
     }
-    judge(netlist, n, certificate, w, &mut first[..size], &mut second[..size])
+    judge(
+        netlist,
+        n,
+        certificate,
+        w,
+        &mut first[..size],
+        &mut second[..size],
+    )
 }
