@@ -3,7 +3,7 @@ use mathlib.Core.Bool.{cond}
 use mathlib.Core.List.{List}
 use Prim.Native.Nat.{_*_, _+_, ℕ}
 use lib.Dec.{eqb}
-use Rattle.circuit.specs.Answer.{Answer, Outcome, answered, numberOf, refused}
+use Rattle.circuit.specs.Answer.{Answer, Outcome, answered, refused}
 use Rattle.circuit.specs.Lists.{at}
 use Rattle.circuit.specs.Fault.{siteOf}
 use Rattle.circuit.specs.declared.fault.Circuit.{Circuit}

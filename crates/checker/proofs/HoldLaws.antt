@@ -5,7 +5,6 @@ use mathlib.Core.Path.{_∙_, _≡_, ap, refl, subst, sym}
 use Prim.Native.Nat.{_%_, _*_, _+_, _/_, _<_, _≤_, suc, zero, ℕ}
 use native.Mathlib.Decide.{decLt, ℕ-discrete}
 use native.Mathlib.Nat.{mul-comm}
-use native.Mathlib.Numerals.{add-one}
 use native.Mathlib.Omega.{arith}
 use lib.Arith.{digits-div, digits-lt, digits-mod}
 use lib.Dec.{eqb, leb, ltb}
@@ -13,7 +12,7 @@ use borrow.Author.Tests.{leb-true, ltb-true}
 use lib.ListN.{getD, getD-replicate, length, replicate, set}
 use lib.Seq.{getD-set-other, getD-set-same}
 use Rattle.checker.proofs.RelationLaws.{absent-from, present-below}
-use Rattle.checker.specs.Window.{Branch, Holds, begin, held, known, knownIn, presentBelow}
+use Rattle.checker.specs.Window.{Branch, Holds, begin, held, known, presentBelow}
 use Rattle.circuit.proofs.BoolLaws.{and-left, and-right}
 use Rattle.circuit.proofs.FaultLaws.{other-nodes}
 use Rattle.circuit.proofs.ValueLaws.{stuck-free, stuck-known}

@@ -1,7 +1,7 @@
 -- The certificate's layout, test by test.
 use mathlib.Core.Bool.{Bool, _&&_, true}
 use mathlib.Core.List.{List}
-use mathlib.Core.Path.{_≡_, sym}
+use mathlib.Core.Path.{_≡_}
 use Prim.Native.Nat.{_%_, _+_, _<_, _≤_, suc, zero, ℕ}
 use native.Mathlib.Nat.{le-add-right}
 use native.Mathlib.Omega.{arith}

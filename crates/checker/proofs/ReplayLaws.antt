@@ -5,7 +5,7 @@ use mathlib.Core.Option.{Option, none, some}
 use mathlib.Core.Path.{_∙_, _≡_, ap, refl, subst, sym}
 use Prim.Native.Nat.{_*_, _+_, _-_, _<_, _≤_, suc, zero, ℕ}
 use native.Mathlib.Omega.{arith}
-use lib.ListN.{drop, getD, length, length-replicate, length-set, replicate, set}
+use lib.ListN.{drop, getD, length, length-replicate, length-set, set}
 use lib.Seq.{drop-drop}
 use Rattle.checker.proofs.Agreement.{dies-agree, follows-agree}
 use Rattle.checker.proofs.HoldLaws.{begin-closed, begin-open, holds-set}

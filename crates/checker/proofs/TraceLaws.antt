@@ -17,11 +17,11 @@ use Rattle.circuit.proofs.BoolLaws.{and-left, and-right, or-right}
 use Rattle.circuit.proofs.ClockLaws.{Ordered}
 use Rattle.circuit.proofs.GateLaws.{Controls, EveryPin, Parity, SomePin, Wired, controls-binary, neg-binary, parity-open, wired-value}
 use Rattle.circuit.proofs.GateLaws.{controlled, controlled-by, uncontrolled-by, unsettled}
-use Rattle.circuit.proofs.ListLaws.{Below, build-agree, every-at, every-by, getD-build, indexed-agree, indexed-at, length-indexed, list-of-one, list-of-two}
+use Rattle.circuit.proofs.ListLaws.{every-at, every-by, indexed-at, length-indexed, list-of-one, list-of-two}
 use Rattle.circuit.proofs.ValueLaws.{known-low, known-is, unknown-high}
 use Rattle.circuit.specs.Fault.{StuckLines, noneStuck}
 use Rattle.circuit.specs.Kind.{gate, invertedIf, isFlipFlop, isGiven, isOutput}
-use Rattle.circuit.specs.Lists.{at, build, every, indexed}
+use Rattle.circuit.specs.Lists.{at, every, indexed}
 use Rattle.circuit.specs.Netlist.{Net}
 use Rattle.circuit.specs.Value.{isUnknown, neg}
 

@@ -1,18 +1,16 @@
 -- Laws of a window as the code walks it: the fault's frames, places in a work slice, and a pin's conclusion test by test.
-use mathlib.Core.Bool.{Bool, _&&_, cond, false, not, true}
+use mathlib.Core.Bool.{Bool, _&&_, false, not, true}
 use mathlib.Core.List.{List}
 use mathlib.Core.Path.{_∙_, _≡_, ap, refl, sym}
-use Prim.Native.Nat.{_*_, _+_, _-_, _<_, _≤_, pred, suc, zero, ℕ}
+use Prim.Native.Nat.{_*_, _+_, _-_, _<_, _≤_, suc, zero, ℕ}
 use native.Mathlib.Nat.{add-zero}
 use native.Mathlib.Omega.{arith}
-use lib.Dec.{eqb}
 use lib.ListN.{drop, set}
 use lib.Seq.{getD-drop}
-use Rattle.checker.specs.Window.{conclusion, hasRelation, knownIn, lineFrame, lineNode, outputConclusion, pinConclusion, pinFrame, presentBelow}
-use Rattle.checker.specs.declared.step.Step.{Step}
+use Rattle.checker.specs.Window.{conclusion, hasRelation, knownIn, lineFrame, lineNode, outputConclusion, pinConclusion, pinFrame}
 use Rattle.circuit.proofs.ValueLaws.{known-low, unknown-high}
 use Rattle.circuit.specs.Clock.{pinValues}
-use Rattle.circuit.specs.Fault.{StuckLines, noneStuck}
+use Rattle.circuit.specs.Fault.{StuckLines}
 use Rattle.circuit.specs.Kind.{controlling, gate, isFlipFlop, isInput, ruleOf}
 use Rattle.circuit.specs.Lists.{at}
 use Rattle.circuit.specs.Netlist.{Net}

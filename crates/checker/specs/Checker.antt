@@ -16,7 +16,7 @@ use Rattle.checker.specs.declared.verdict.Checked.{Checked}
 use Rattle.checker.specs.declared.verdict.Judgement.{Judgement}
 use Rattle.checker.specs.declared.step.Step.{Step}
 
--- the same line, frame and value
+-- the same node, frame and value
 abbrev pub sameStep : Step → Step → Bool
 sameStep a s = eqb (a .node) (s .node) && (eqb (a .frame) (s .frame) && eqb (a .value) (s .value))
 
@@ -95,10 +95,11 @@ checkerTests =
     ∷ record { number = 13; passes = λ a. ltb (splitNode (a .certificate)) (netOf (a .netlist) .size) && ltb (splitFrame (a .certificate)) (framesOf (a .certificate)) }
     ∷ []
 
--- 1 to 13 alter nothing. After 14, 15 and accepted the first N × W bytes of both work slices are 0.
+-- 1 to 13 alter nothing.
 abbrev pub turnedBack : ℕ → CheckerCall → Outcome
 turnedBack k a = outcome (refused k) (a .first) (a .second)
 
+-- After 14, 15 and accepted the first N × W bytes of both work slices are 0.
 unfoldable pub judged : CheckerCall → Outcome
 judged a =
     let net = netOf (a .netlist) in

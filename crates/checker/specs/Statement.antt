@@ -1,4 +1,5 @@
--- THE STATEMENT of demand 3: what an accepted certificate says of a fault and c.
+-- THE STATEMENT of demand 3: what an accepted certificate says of a fault and c, namely that the fault is c-cycle redundant (FIRES,
+-- Definition 5).
 use mathlib.Core.List.{List}
 use mathlib.Core.Path.{_≡_}
 use Prim.Native.Nat.{_+_, _<_, ℕ}

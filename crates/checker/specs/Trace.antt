@@ -29,7 +29,7 @@ abbrev pub untouchedValue : ℕ → ℕ → ℕ
 untouchedValue zero v = v
 untouchedValue (suc m) v = 2
 
--- One frame. D has the lines whose fault starts to act in it (at frame c, none later), v what is known in it.
+-- One frame. D has the faulted lines at frame c, and none from c + 1 on; v what is known in the frame.
 module _ (net : Net) (D : StuckLines) (v : ℕ → ℕ) where
   -- A pin is touched if its source is. ms has the marks of the nodes.
   unfoldable pub pinMark : (ℕ → ℕ) → ℕ → ℕ → ℕ → ℕ

@@ -54,11 +54,12 @@ module _ (net : Net) (s : StuckLines) (v : ℕ → ℕ) where
         | false ↦ elim (isUnknown (s .pin n k) && differ (gate (net .kind n) (set vs k (neg w))) o) [ true ↦ w | false ↦ 2 ]
       ]
 
--- what is known, as it lies in bytes: frame by frame, a byte for each of N nodes
+-- What is known, as it lies in bytes: frame by frame, a byte for each of N nodes. A place past the end counts as known to be 0, so a
+-- window of W frames takes N × W bytes.
 abbrev pub knownIn : List ℕ → ℕ → ℕ → ℕ → ℕ
 knownIn bytes N n t = at bytes (t * N + n)
 
--- the values concluded so far (frame by frame, 2 for unknown), the steps made, and whether a contradiction was met
+-- the split's value and those concluded so far (frame by frame, 2 for unknown), the steps made, and whether a contradiction was met
 pub record Branch : Type 0 where
   pub values : List ℕ
   pub steps : List Step
@@ -82,7 +83,8 @@ module _ (net : Net) (S : ℕ → StuckLines) where
   unfoldable pub inForce : ℕ → ℕ → Bool
   inForce n t = isUnknown (held n t) && hasRelation (net .kind n) t
 
-  -- what the relation of n at t concludes of its line a, from what is known (kn, by node and frame)
+  -- What the relation of n at t concludes of its line a, from what is known (kn, by node and frame): a value of 2 or more says nothing.
+  -- It has a meaning where the relation is in force and the node has that line.
   unfoldable pub conclusion : (ℕ → ℕ → ℕ) → ℕ → ℕ → ℕ → Step
   conclusion kn n t zero =
       let p = pinFrame (net .kind n) t in

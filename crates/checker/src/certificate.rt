@@ -3,7 +3,7 @@ ghost use mathlib.Core.Path.{_≡_};
 ghost use mathlib.Core.Bool.{_&&_};
 ghost use lib.Dec.{leb};
 ghost use lib.ListN.{length};
-ghost use Rattle.checker.specs.Certificate.{cOf, fOf, faultOf, headLength, headOf, pairsRight, runLength, runOffset, splitFrame, splitNode, u32At};
+ghost use Rattle.checker.specs.Certificate.{headLength, headOf, pairsRight, runLength, runOffset, u32At};
 use circuit::Fault;
 
 // The length of what stands before the steps.
@@ -69,8 +69,8 @@ pub fn run_length(certificate: &[u8], v: u8) -> u32
     )
 }
 
-// The certificate has its head, the second run follows the first, the file ends with the second, and
-// both have whole steps.
+// The certificate has its head, the first run follows it, the second run follows the first, the
+// file ends with the second, and both have whole steps.
 pub fn layout_right(certificate: &[u8]) -> bool
     ensures { λ r. ⌜ r ≡ (leb headLength (length (now (certificate .entry))) && pairsRight (now (certificate .entry))) ⌝ }
 {
@@ -82,7 +82,7 @@ pub fn layout_right(certificate: &[u8]) -> bool
     let middle = run_offset(certificate, 1) as u64;
     let start = run_offset(certificate, 0) as u64;
     let length = certificate.len() as u64;
-    start == 25
-        && (middle == 25 + first
+    start == HEAD_LENGTH as u64
+        && (middle == HEAD_LENGTH as u64 + first
             && (length == middle + second && (first % 7 == 0 && second % 7 == 0)))
 }

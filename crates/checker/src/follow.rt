@@ -86,7 +86,8 @@ fn some_line_gives(netlist: &[u8], fault: Fault, c: u8, known: &[u8], step: Step
     false
 }
 
-// Whether a step follows by its relation from what is known, in a window of w frames, and says something new.
+// Whether a step follows by its relation from what is known, in a window of w frames, and says
+// something new. A place past the end of what is known counts as known to be 0.
 pub fn step_follows(netlist: &[u8], fault: Fault, c: u8, w: u16, known: &[u8], step: Step) -> bool
     ensures { λ r. ⌜ r ≡ follows (netOf (now (netlist .entry))) (presentBelow c (linesOf fault)) w (knownIn (now (known .entry)) (netOf (now (netlist .entry)) .size)) step ⌝ }
 {

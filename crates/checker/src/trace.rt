@@ -10,7 +10,7 @@ ghost use Rattle.circuit.specs.Kind.{gate};
 ghost use Rattle.circuit.specs.Lists.{at, every, indexed};
 ghost use Rattle.circuit.specs.Netlist.{kindOf, netOf, sourceOf};
 ghost use Rattle.checker.specs.Window.{knownIn};
-ghost use Rattle.checker.specs.Trace.{effectDies, gateMark, latchedMark, latchedMarks, latchedUntouched, mark, marksList, nodeMark, outputUntouched, pinMark, siteMark, someMark, traced, tracing, untouchedValue};
+ghost use Rattle.checker.specs.Trace.{effectDies, gateMark, latchedMark, latchedMarks, latchedUntouched, marksList, nodeMark, outputUntouched, pinMark, siteMark, someMark, traced, tracing, untouchedValue};
 use crate::window::place_of;
 use circuit::Circuit;
 use circuit::FLIP_FLOP;

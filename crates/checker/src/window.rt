@@ -71,7 +71,8 @@ pub(crate) fn begin_branch(
     false
 }
 
-// Enters a value that was concluded. Says whether it contradicts a known one, which then stays.
+// Enters a value that was concluded. Says whether the place held a known value, which then stays: a
+// contradiction, since the caller has seen that it is not the same.
 pub fn enter_value(known: &mut [u8], place: usize, value: u8) -> bool
     ensures { λ r. ⌜ entered r (now (known .exit)) ≡ enterAt (now (known .entry)) place value ⌝ }
 {

@@ -1,5 +1,5 @@
 -- Laws of lists made by rising index, and of tests of every index.
-use mathlib.Core.Bool.{Bool, _&&_, _||_, false, false≢true, true}
+use mathlib.Core.Bool.{Bool, _||_, false, false≢true, true}
 use mathlib.Core.List.{List, [], _++_, _∷_, append-nil}
 use mathlib.Core.Logic.{⊎-elim}
 use mathlib.Core.Path.{_∙_, _≡_, ap, refl, subst, sym}

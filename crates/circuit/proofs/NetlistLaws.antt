@@ -6,7 +6,7 @@ use Prim.Native.Nat.{_<_, ℕ}
 use lib.ListN.{length}
 use Rattle.circuit.proofs.ListLaws.{getD-build, length-build}
 use Rattle.circuit.proofs.RefusalLaws.{FirstFails, Passed, refusal-at, refusal-by}
-use Rattle.circuit.specs.Answer.{Answer, refusal, refused}
+use Rattle.circuit.specs.Answer.{Answer, refused}
 use Rattle.circuit.specs.Lists.{at}
 use Rattle.circuit.specs.Netlist.{lengthOf, netOf, nodeCount, pinCount, pinsOf, readerTests, reading, sound, sourceOf}
 

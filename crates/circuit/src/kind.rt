@@ -1,7 +1,6 @@
 // What a kind number decides: how many pins a node has, and what it makes of their values.
 ghost use mathlib.Core.Path.{_≡_};
 ghost use mathlib.Core.Bool.{_||_};
-ghost use lib.Dec.{eqb};
 ghost use Rattle.circuit.specs.Kind.{rule, ruleOf, unitOf, joinOf, controlling, invertedIf, isGiven};
 ghost use Rattle.circuit.specs.Value.{differ, neg, and₂, or₂, xor₂};
 

@@ -1,6 +1,5 @@
 use Rattle.capi.specs.Numbers.{checkNumber, numberedBy}
-use Prim.Native.Nat.{ℕ}
-use mathlib.Core.Path.{_≡_, ap, sym, _∙_}
+use mathlib.Core.Path.{ap}
 use borrow.Author.Needs.{needs}
 use Rattle.capi.proofs.leverpeach_check.Statement.{statement}
 use Rattle.capi.proofs.leverpeach_check.Tie as tie

@@ -1,4 +1,4 @@
-use mathlib.Core.Path.{_∙_, ap}
+use mathlib.Core.Path.{ap}
 use Rattle.circuit.specs.Answer.{numberOf}
 use Rattle.capi.specs.Numbers.{numberedBy}
 use borrow.Author.Needs.{needs}

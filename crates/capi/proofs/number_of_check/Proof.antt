@@ -1,7 +1,6 @@
 use Rattle.checker.specs.Checker.{accepted, checkedSays}
 use native.Mathlib.Omega.{arith}
-use Prim.Native.Nat.{ℕ}
-use mathlib.Core.Path.{_≡_, ap, sym, _∙_}
+use mathlib.Core.Path.{_≡_, ap, _∙_}
 use borrow.Author.Needs.{needs}
 use Rattle.capi.proofs.number_of_check.Statement.{statement}
 use Rattle.capi.proofs.number_of_check.Tie as tie

@@ -1,4 +1,3 @@
-use mathlib.Core.Path.{_≡_, _∙_, sym}
 use borrow.Author.Tests.{eq-eqb, ne-eqb}
 use denote.Ref.{now}
 use Rattle.circuit.specs.Netlist.{netOf}

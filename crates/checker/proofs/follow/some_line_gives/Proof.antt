@@ -1,9 +1,9 @@
 use borrow.Author.Needs.{needs}
-use Prim.Native.Nat.{ℕ, suc, _≤_, _<_, _-_, _+_}
+use Prim.Native.Nat.{suc, _≤_, _<_, _-_, _+_}
 use native.Mathlib.Omega.{arith}
 use native.Mathlib.Numerals.{add-one}
 use mathlib.Core.Path.{_≡_, _∙_, sym}
-use mathlib.Core.Bool.{true, false}
+use mathlib.Core.Bool.{false}
 use lib.ListN.{length}
 use denote.Ref.{now}
 use Rattle.circuit.specs.Netlist.{netOf}

@@ -1,7 +1,7 @@
 use lib.Dec.{eqb}
 use Prim.Native.Nat.{ℕ, _*_, _+_}
 use mathlib.Core.Path.{_≡_, _∙_, sym, ap, refl}
-use mathlib.Core.Bool.{Bool, true, false}
+use mathlib.Core.Bool.{true, false}
 use borrow.Author.Tests.{eq-eqb, ne-eqb, not-true, not-false}
 use denote.Ref.{now}
 use Rattle.circuit.specs.Netlist.{netOf}

@@ -1,5 +1,5 @@
 use Prim.Native.Nat.{ℕ}
-use mathlib.Core.Path.{_≡_, _∙_, ap}
+use mathlib.Core.Path.{_∙_, ap}
 use lib.ListN.{drop}
 use denote.Ref.{now}
 use Rattle.circuit.specs.Netlist.{netOf}

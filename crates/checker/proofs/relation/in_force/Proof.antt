@@ -1,4 +1,3 @@
-use Prim.Native.Nat.{ℕ}
 use mathlib.Core.Path.{_∙_, ap}
 use Rattle.circuit.proofs.ValueLaws.{known-low, unknown-high}
 use Rattle.circuit.specs.Netlist.{netOf}

@@ -1,8 +1,7 @@
 use mathlib.Core.Bool.{true, false}
-use Rattle.circuit.specs.Value.{differ, neg}
+use Rattle.circuit.specs.Value.{neg}
 use Rattle.circuit.specs.declared.kind.Rule.{Rule}
 use Rattle.checker.proofs.WindowLaws.{tried, against, conclusion-stuck, conclusion-first, conclusion-second, conclusion-none}
-use Prim.Native.Nat.{ℕ}
 use mathlib.Core.Path.{_≡_, _∙_, ap, sym}
 use denote.Ref.{now}
 use Rattle.circuit.specs.Netlist.{netOf}

@@ -1,16 +1,15 @@
-use borrow.Author.Needs.{needs}
-use Prim.Native.Nat.{ℕ, _≤_, _<_, _-_, _+_, _*_}
+use Prim.Native.Nat.{ℕ, _≤_, _-_, _+_, _*_}
 use native.Mathlib.Omega.{arith}
 use native.Mathlib.Nat.{mul-le-mul-left}
 use mathlib.Core.Path.{_≡_, _∙_, sym, ap, refl}
 use mathlib.Core.List.{List}
-use mathlib.Core.Bool.{Bool, true, false, _&&_}
+use mathlib.Core.Bool.{Bool, _&&_}
 use lib.ListN.{length, take}
 use denote.Ref.{now}
 use borrow.Author.Tests.{not-true, not-false}
 use Rattle.circuit.specs.Netlist.{netOf}
 use Rattle.circuit.specs.Lists.{at, every}
-use Rattle.circuit.specs.Fault.{linesIn, linesOf, noneStuck}
+use Rattle.circuit.specs.Fault.{linesIn, noneStuck}
 use Rattle.checker.specs.Window.{knownIn}
 use Rattle.checker.specs.Trace.{effectDies, latchedMarks, latchedUntouched}
 use Rattle.checker.proofs.MarkLaws.{dies-open, dies-on, dies-last, nextMarks}

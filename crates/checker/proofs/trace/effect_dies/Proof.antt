@@ -1,14 +1,14 @@
-use mathlib.Core.List.{List, [], _++_}
-use lib.ListN.{length, drop, replicate}
+use mathlib.Core.List.{_++_}
+use lib.ListN.{drop, replicate}
 use lib.Seq.{length-take-le}
 use denote.Ref.{now}
 use Rattle.circuit.specs.Netlist.{netOf}
 use Rattle.circuit.specs.Fault.{linesOf}
 use Rattle.checker.specs.Window.{knownIn}
-use Rattle.checker.specs.Trace.{Traced, cleared, effectDies, traced}
+use Rattle.checker.specs.Trace.{Traced, traced}
 use Rattle.checker.proofs.MarkLaws.{tracing-short, tracing-long}
 use mathlib.Core.Path.{_≡_, _∙_, ap, sym}
-use Prim.Native.Nat.{ℕ, _≤_, _<_, _*_, _+_}
+use Prim.Native.Nat.{ℕ, _≤_, _*_, _+_}
 use native.Mathlib.Omega.{arith}
 use native.Mathlib.Nat.{mul-le-mul}
 use borrow.Author.Needs.{needs}

@@ -3,7 +3,7 @@ use Rattle.circuit.specs.Value.{isUnknown}
 use Rattle.checker.specs.Trace.{mark}
 use Rattle.checker.proofs.MarkLaws.{gate-touched, gate-untouched, mark-known, mark-unknown}
 use Prim.Native.Nat.{ℕ}
-use mathlib.Core.Path.{_≡_, _∙_, sym, ap}
+use mathlib.Core.Path.{_∙_, sym, ap}
 use lib.ListN.{take}
 use denote.Ref.{now}
 use Rattle.circuit.specs.Netlist.{netOf}

@@ -1,14 +1,11 @@
 use Rattle.checker.specs.Trace.{latchedMarks}
-use Prim.Native.Nat.{ℕ, _<_}
-use native.Mathlib.Omega.{arith}
-use mathlib.Core.Path.{_≡_, _∙_, sym, ap}
-use mathlib.Core.List.{List}
-use lib.ListN.{drop, length, take}
+use Prim.Native.Nat.{ℕ}
+use mathlib.Core.Path.{_∙_, ap}
+use lib.ListN.{drop, take}
 use denote.Ref.{now}
 use Rattle.circuit.specs.Netlist.{netOf}
-use Rattle.circuit.specs.Lists.{at, every}
+use Rattle.circuit.specs.Lists.{at}
 use Rattle.circuit.specs.Fault.{linesIn}
-use Rattle.checker.specs.Window.{knownIn}
 use Rattle.checker.proofs.WindowLaws.{frame-values}
 use borrow.Author.Needs.{needs}
 use Rattle.checker.proofs.trace.latch_frame.Statement.{statement}

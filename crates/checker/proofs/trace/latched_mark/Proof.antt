@@ -1,7 +1,6 @@
 use mathlib.Core.Bool.{true, false}
 use Rattle.checker.proofs.MarkLaws.{not-latched, latched-by}
-use Prim.Native.Nat.{ℕ}
-use mathlib.Core.Path.{_≡_, _∙_, sym, ap}
+use mathlib.Core.Path.{_∙_, sym}
 use lib.ListN.{take}
 use denote.Ref.{now}
 use Rattle.circuit.specs.Netlist.{netOf}

@@ -2,16 +2,14 @@ use lib.Seq.{take-at}
 use Rattle.circuit.proofs.ListLaws.{take-inside}
 use Rattle.checker.specs.Trace.{marksList, outputUntouched}
 use Rattle.checker.proofs.MarkLaws.{marks-latched, length-marks}
-use Prim.Native.Nat.{ℕ, _<_}
+use Prim.Native.Nat.{ℕ}
 use native.Mathlib.Omega.{arith}
-use mathlib.Core.Path.{_≡_, _∙_, sym, ap}
-use mathlib.Core.List.{List}
-use lib.ListN.{drop, length, take}
+use mathlib.Core.Path.{_∙_, sym, ap}
+use lib.ListN.{drop, take}
 use denote.Ref.{now}
 use Rattle.circuit.specs.Netlist.{netOf}
 use Rattle.circuit.specs.Lists.{at, every}
 use Rattle.circuit.specs.Fault.{linesIn}
-use Rattle.checker.specs.Window.{knownIn}
 use Rattle.checker.proofs.WindowLaws.{frame-values}
 use borrow.Author.Needs.{needs}
 use Rattle.checker.proofs.trace.mark_frame.Statement.{statement}

@@ -1,13 +1,13 @@
-use mathlib.Core.Path.{_≡_, _∙_, sym, ap, refl}
+use mathlib.Core.Path.{_≡_, _∙_, ap, refl}
 use Rattle.circuit.proofs.ListLaws.{build-none, build-store}
 use borrow.Author.Needs.{needs}
 use native.Mathlib.Omega.{arith}
-use mathlib.Core.List.{List, _++_}
+use mathlib.Core.List.{_++_}
 use Rattle.checker.specs.Trace.{marksList}
 use Rattle.checker.proofs.MarkLaws.{mark-turn}
 use Rattle.checker.proofs.Agreement.{markNext}
 use Prim.Native.Nat.{ℕ, _≤_, _<_, _-_}
-use lib.ListN.{drop, length, length-set, take}
+use lib.ListN.{drop, length, length-set}
 use denote.Ref.{now}
 use Rattle.circuit.specs.Netlist.{netOf}
 use Rattle.circuit.specs.Lists.{at, build}

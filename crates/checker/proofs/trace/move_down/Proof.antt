@@ -1,7 +1,6 @@
 use Prim.Native.Nat.{ℕ, _≤_, _<_, _-_, _+_}
 use native.Mathlib.Nat.{zero-add}
 use mathlib.Core.Path.{_≡_, _∙_, sym, ap, refl, subst}
-use mathlib.Core.List.{List}
 use lib.Seq.{getD-drop, getD-set-other}
 use lib.ListN.{drop, length, length-drop, length-set, set}
 use Rattle.circuit.specs.Lists.{at}

@@ -1,7 +1,6 @@
 use borrow.Author.Tests.{ne-eqb}
 use Rattle.circuit.specs.Kind.{isGiven}
 use Rattle.checker.proofs.MarkLaws.{mark-flip-flop, mark-gate, mark-input}
-use Prim.Native.Nat.{ℕ}
 use mathlib.Core.Path.{_≡_, _∙_, sym, ap}
 use lib.ListN.{take}
 use denote.Ref.{now}

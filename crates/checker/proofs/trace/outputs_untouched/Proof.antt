@@ -1,15 +1,15 @@
 use borrow.Author.Tests.{not-true, not-false}
 use Rattle.checker.specs.Trace.{outputUntouched}
 use Rattle.checker.proofs.MarkLaws.{output-read}
-use Prim.Native.Nat.{ℕ, _≤_, _<_, _-_}
-use mathlib.Core.Path.{_≡_, _∙_, sym, ap, refl}
-use mathlib.Core.Bool.{true, false}
+use Prim.Native.Nat.{_≤_, _-_}
+use mathlib.Core.Path.{_≡_, _∙_, sym, refl}
+use mathlib.Core.Bool.{true}
 use lib.ListN.{take}
 use denote.Ref.{now}
 use native.Mathlib.Omega.{arith}
 use borrow.Author.Needs.{needs}
 use Rattle.circuit.specs.Netlist.{netOf}
-use Rattle.circuit.specs.Lists.{at, every}
+use Rattle.circuit.specs.Lists.{every}
 use Rattle.circuit.proofs.ListLaws.{every-more, every-fails, every-done}
 use Rattle.checker.proofs.trace.outputs_untouched.Statement.{statement}
 use Rattle.checker.proofs.trace.outputs_untouched.Tie as tie

@@ -1,11 +1,10 @@
-use lib.Dec.{eqb}
 use borrow.Author.Tests.{eq-eqb, ne-eqb}
 use Rattle.circuit.specs.Fault.{linesIn}
 use Rattle.checker.specs.Trace.{latchedMarks, latchedUntouched}
 use Rattle.checker.proofs.Agreement.{latched-law}
-use Prim.Native.Nat.{ℕ, _≤_, _<_, _-_}
-use mathlib.Core.Path.{_≡_, _∙_, sym, ap, refl}
-use mathlib.Core.Bool.{true, false}
+use Prim.Native.Nat.{_≤_, _<_, _-_}
+use mathlib.Core.Path.{_≡_, _∙_, sym, refl}
+use mathlib.Core.Bool.{true}
 use lib.ListN.{take}
 use denote.Ref.{now}
 use native.Mathlib.Omega.{arith}

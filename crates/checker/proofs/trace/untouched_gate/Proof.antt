@@ -4,8 +4,8 @@ use Rattle.circuit.proofs.PinLaws.{function-none, function-more}
 use borrow.Author.Needs.{needs}
 use Prim.Native.Nat.{ℕ, _≤_, _<_, _-_}
 use native.Mathlib.Omega.{arith}
-use mathlib.Core.Path.{_≡_, _∙_, sym, ap}
-use lib.ListN.{drop, length, take}
+use mathlib.Core.Path.{_≡_, _∙_, sym}
+use lib.ListN.{drop, take}
 use denote.Ref.{now}
 use Rattle.circuit.specs.Netlist.{lengthOf, netOf}
 use Rattle.circuit.specs.Lists.{at, indexed}

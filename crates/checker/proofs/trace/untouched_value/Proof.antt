@@ -1,4 +1,3 @@
-use mathlib.Core.Path.{_∙_, ap, _≡_}
 use Rattle.checker.proofs.MarkLaws.{value-touched}
 use borrow.Author.Needs.{needs}
 use Rattle.checker.proofs.trace.untouched_value.Statement.{statement}

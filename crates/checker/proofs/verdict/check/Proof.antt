@@ -1,14 +1,14 @@
 use Rattle.checker.proofs.Theorem.{answer-means}
 use Rattle.checker.proofs.VerdictLaws.{checking-unsound, checking-refused, checking-judged}
 use Rattle.checker.specs.declared.certificate.Head.{Head}
-use Rattle.checker.specs.Checker.{checkerCall, checkedSays, judged, windowSize}
+use Rattle.checker.specs.Checker.{checkerCall, judged, windowSize}
 use Rattle.checker.specs.Certificate.{framesOf, headOf, splitFrame, splitNode}
 use Rattle.circuit.proofs.SoundLaws.{facts, sound-size}
 use Rattle.circuit.proofs.RefusalLaws.{fails-here, fails-later}
 use Rattle.circuit.proofs.BoolLaws.{and-left, and-right}
 use Rattle.circuit.specs.Fault.{faultExists}
 use Rattle.circuit.specs.Answer.{Outcome, outcome}
-use Rattle.circuit.specs.Netlist.{netOf, pinCount, reading, sound, readingSays}
+use Rattle.circuit.specs.Netlist.{netOf, reading, sound, readingSays}
 use borrow.Author.Tests.{not-true, not-false, le-leb, lt-leb, leb-true, ltb-true}
 use denote.Ref.{now}
 use lib.Seq.{length-take-le}
@@ -16,7 +16,7 @@ use lib.ListN.{length, drop, replicate}
 use lib.Dec.{leb, ltb}
 use native.Mathlib.Nat.{mul-le-mul}
 use native.Mathlib.Omega.{arith}
-use Prim.Native.Nat.{ℕ, _≤_, _<_, _*_, _+_}
+use Prim.Native.Nat.{ℕ, _≤_, _*_, _+_}
 use mathlib.Core.Path.{_≡_, refl, sym, ap, _∙_}
 use mathlib.Core.List.{_++_}
 use mathlib.Core.Bool.{true, _&&_}

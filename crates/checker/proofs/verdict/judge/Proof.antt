@@ -1,12 +1,12 @@
 use Prim.Native.Nat.{ℕ}
 use native.Mathlib.Omega.{arith}
-use mathlib.Core.Path.{_≡_, _∙_, ap, sym}
-use lib.ListN.{length, replicate}
+use mathlib.Core.Path.{_∙_, ap}
+use lib.ListN.{replicate}
 use denote.Ref.{now}
 use Rattle.circuit.specs.Netlist.{netOf}
 use Rattle.circuit.specs.Answer.{outcome}
 use Rattle.checker.specs.declared.certificate.Head.{Head}
-use Rattle.checker.specs.Checker.{replayed, verdict}
+use Rattle.checker.specs.Checker.{replayed}
 use Rattle.checker.proofs.LayoutLaws.{runs-within}
 use borrow.Author.Needs.{needs}
 use Rattle.checker.proofs.verdict.judge.Statement.{statement}

@@ -1,9 +1,9 @@
 use Rattle.checker.proofs.HoldLaws.{fault-says}
 use Rattle.checker.proofs.MarkLaws.{tracing-long}
 use native.Mathlib.Nat.{mul-le-mul-left}
-use Prim.Native.Nat.{ℕ, _≤_, _<_, _-_, _+_, _*_}
+use Prim.Native.Nat.{ℕ, _≤_, _-_, _+_, _*_}
 use native.Mathlib.Omega.{arith}
-use mathlib.Core.Path.{_≡_, _∙_, ap, sym, refl, subst}
+use mathlib.Core.Path.{_≡_, _∙_, ap, sym, subst}
 use mathlib.Core.List.{List, [], _∷_}
 use mathlib.Core.Bool.{Bool, true, false}
 use lib.ListN.{drop, length}
@@ -15,10 +15,9 @@ use Rattle.circuit.specs.Fault.{linesOf}
 use Rattle.circuit.proofs.SoundLaws.{sound-size}
 use Rattle.circuit.proofs.ClockLaws.{sound-ordered}
 use Rattle.checker.specs.declared.step.Step.{Step}
-use Rattle.checker.specs.declared.verdict.Judgement.{Judgement}
-use Rattle.checker.specs.Window.{Branch, Entered, begin, enterAt, knownIn, presentBelow}
-use Rattle.checker.specs.Trace.{Traced, effectDies}
-use Rattle.checker.specs.Checker.{follows, judgement, replay}
+use Rattle.checker.specs.Window.{Entered, begin, enterAt, knownIn, presentBelow}
+use Rattle.checker.specs.Trace.{Traced}
+use Rattle.checker.specs.Checker.{follows, replay}
 use Rattle.checker.specs.Certificate.{stepOf, stepsIn}
 use Rattle.checker.proofs.ReplayLaws.{Reached, after-contradiction, begin-full, judged-contradicted, judged-refused, judged-traced, not-following, step-entered, steps-more, steps-none}
 use Rattle.checker.proofs.verdict.judge_branch.Statement.{statement}

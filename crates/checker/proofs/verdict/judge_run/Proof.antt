@@ -1,8 +1,7 @@
 use Prim.Native.Nat.{ℕ, _<_, _+_, _/_, _-_}
 use native.Mathlib.Omega.{arith}
 use native.Mathlib.Nat.{div-le-self}
-use mathlib.Core.Path.{_≡_, _∙_, ap, sym, subst}
-use mathlib.Core.List.{List}
+use mathlib.Core.Path.{_∙_, ap, sym, subst}
 use lib.Seq.{take-all}
 use lib.ListN.{drop, length, length-drop}
 use denote.Ref.{now}
@@ -11,7 +10,7 @@ use Rattle.circuit.specs.Fault.{faultExists, linesOf}
 use Rattle.checker.specs.declared.certificate.Head.{Head}
 use Rattle.checker.specs.Window.{begin, presentBelow}
 use Rattle.checker.specs.Checker.{judgement, replay, replayed}
-use Rattle.checker.specs.Certificate.{framesOf, headOf, runLength, runOffset, stepsIn, stepsOf}
+use Rattle.checker.specs.Certificate.{stepsIn, stepsOf}
 use borrow.Author.Needs.{needs}
 use Rattle.checker.proofs.verdict.judge_run.Statement.{statement}
 use Rattle.checker.proofs.verdict.judge_run.Tie as tie

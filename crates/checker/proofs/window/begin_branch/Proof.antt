@@ -2,14 +2,14 @@ use Prim.Native.Nat.{ℕ, _<_, _+_, _*_}
 use native.Mathlib.Omega.{arith}
 use mathlib.Core.Path.{_≡_, _∙_, ap, sym, subst}
 use mathlib.Core.List.{List, []}
-use mathlib.Core.Bool.{Bool, true, false}
-use lib.ListN.{length, length-replicate, replicate, set}
+use mathlib.Core.Bool.{true, false}
+use lib.ListN.{length-replicate, replicate, set}
 use denote.Ref.{now}
 use Rattle.circuit.specs.Value.{differ}
 use Rattle.circuit.specs.Netlist.{netOf}
 use Rattle.circuit.specs.Lists.{at}
 use Rattle.circuit.specs.Fault.{linesOf}
-use Rattle.checker.specs.Window.{Branch, Holds, begin, known, presentBelow}
+use Rattle.checker.specs.Window.{Branch, Holds, known, presentBelow}
 use Rattle.checker.proofs.HoldLaws.{begin-closed, begin-open, holds-set, split-known, start-known}
 use borrow.Author.Needs.{needs}
 use Rattle.checker.proofs.window.begin_branch.Statement.{statement}

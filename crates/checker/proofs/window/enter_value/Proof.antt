@@ -1,4 +1,3 @@
-use mathlib.Core.Path.{_≡_, _∙_, sym, ap}
 use Rattle.circuit.proofs.ValueLaws.{known-low, unknown-high}
 use borrow.Author.Needs.{needs}
 use Rattle.checker.proofs.window.enter_value.Statement.{statement}

@@ -1,8 +1,7 @@
 use borrow.Author.Needs.{needs}
 use Prim.Native.Nat.{ℕ, _≤_, _<_, _-_, _+_, _*_}
 use native.Mathlib.Omega.{arith}
-use mathlib.Core.Path.{_≡_, _∙_, ap, sym, refl, subst}
-use mathlib.Core.List.{List}
+use mathlib.Core.Path.{_≡_, _∙_, ap, sym, subst}
 use lib.ListN.{length, length-replicate, length-set, replicate, getD, getD-replicate, set}
 use denote.Ref.{now}
 use Rattle.circuit.specs.Value.{stuckOr}

@@ -1,13 +1,13 @@
-use lib.ListN.{drop, length, set}
+use lib.ListN.{drop, set}
 use Rattle.circuit.specs.Netlist.{netOf, lengthOf}
 use Rattle.circuit.specs.Lists.{at}
-use Rattle.circuit.specs.Kind.{functionOf, joinOf, gate, invertedIf}
+use Rattle.circuit.specs.Kind.{functionOf, gate}
 use Rattle.circuit.specs.Fault.{linesIn}
 use Rattle.circuit.specs.Clock.{pinValues}
 use Rattle.circuit.proofs.PinLaws.{length-assumed, assumed-at, function-none, function-more}
 use denote.Ref.{now}
-use Prim.Native.Nat.{ℕ, _≤_, _-_, _<_, _+_, suc}
-use mathlib.Core.Path.{_≡_, refl, sym, _∙_, ap}
+use Prim.Native.Nat.{_≤_, _-_, _<_}
+use mathlib.Core.Path.{_≡_}
 use native.Mathlib.Omega.{arith}
 use borrow.Author.Needs.{needs}
 use Rattle.circuit.proofs.clock.gate_assuming.Statement.{statement}

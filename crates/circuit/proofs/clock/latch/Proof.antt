@@ -9,8 +9,8 @@ use Rattle.circuit.specs.Fault.{linesIn}
 use Rattle.circuit.specs.Clock.{latchedBy, latchedList}
 use Rattle.circuit.proofs.ListLaws.{build-none, build-store, build-end}
 use denote.Ref.{now}
-use Prim.Native.Nat.{ℕ, _≤_, _-_, _<_, _+_, suc}
-use mathlib.Core.Path.{_≡_, refl, sym, _∙_, ap}
+use Prim.Native.Nat.{_≤_, _-_, _<_}
+use mathlib.Core.Path.{_≡_, _∙_}
 use native.Mathlib.Omega.{arith}
 use borrow.Author.Needs.{needs}
 use Rattle.circuit.proofs.clock.latch.Statement.{statement}

@@ -1,15 +1,15 @@
 use Rattle.circuit.specs.Netlist.{netOf, lengthOf, kindOf, pinCount}
 use Rattle.circuit.specs.Kind.{ruleOf}
-use borrow.Author.Tests.{eq-eqb, ne-eqb}
+use borrow.Author.Tests.{ne-eqb}
 use Rattle.circuit.specs.Netlist.{netOf}
 use Rattle.circuit.specs.Lists.{at}
 use Rattle.circuit.specs.Fault.{linesIn}
 use Rattle.circuit.specs.Clock.{latchedBy}
-use Rattle.circuit.proofs.SoundLaws.{Facts, facts}
+use Rattle.circuit.proofs.SoundLaws.{facts}
 use Rattle.circuit.proofs.PinLaws.{pinValues-at}
 use denote.Ref.{now}
-use Prim.Native.Nat.{ℕ, _≤_, _-_, _<_, _+_, suc}
-use mathlib.Core.Path.{_≡_, refl, sym, _∙_, ap}
+use Prim.Native.Nat.{_<_}
+use mathlib.Core.Path.{_≡_, sym, _∙_}
 use native.Mathlib.Omega.{arith}
 use borrow.Author.Needs.{needs}
 use Rattle.circuit.proofs.clock.latched_value.Statement.{statement}

@@ -5,8 +5,8 @@ use Rattle.circuit.specs.Clock.{placeFits}
 use Rattle.circuit.specs.Lists.{every}
 use Rattle.circuit.proofs.ListLaws.{every-more, every-fails, every-done}
 use denote.Ref.{now}
-use Prim.Native.Nat.{ℕ, _≤_, _-_, _<_, _+_, suc}
-use mathlib.Core.Path.{_≡_, refl, sym, _∙_, ap}
+use Prim.Native.Nat.{_≤_, _-_}
+use mathlib.Core.Path.{_≡_, refl, sym, _∙_}
 use native.Mathlib.Omega.{arith}
 use borrow.Author.Needs.{needs}
 use Rattle.circuit.proofs.clock.places_fit.Statement.{statement}

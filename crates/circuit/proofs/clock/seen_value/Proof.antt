@@ -3,9 +3,7 @@ use Rattle.circuit.specs.Lists.{at}
 use Rattle.circuit.specs.Fault.{linesIn}
 use Rattle.circuit.proofs.ClockLaws.{seenBy-stuck, seenBy-given, seenBy-gate}
 use denote.Ref.{now}
-use Prim.Native.Nat.{ℕ, _≤_, _-_, _<_, _+_, suc}
-use mathlib.Core.Path.{_≡_, refl, sym, _∙_, ap}
-use native.Mathlib.Omega.{arith}
+use mathlib.Core.Path.{sym, _∙_}
 use borrow.Author.Needs.{needs}
 use Rattle.circuit.proofs.clock.seen_value.Statement.{statement}
 use Rattle.circuit.proofs.clock.seen_value.Tie as tie

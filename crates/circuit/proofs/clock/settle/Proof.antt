@@ -1,15 +1,15 @@
 use mathlib.Core.List.{_++_}
-use lib.ListN.{drop, length, set, length-set}
+use lib.ListN.{drop, length, length-set}
 use Rattle.circuit.specs.Netlist.{netOf, pinCount}
 use Rattle.circuit.specs.Lists.{at, build}
 use Rattle.circuit.specs.Fault.{linesIn}
-use Rattle.circuit.specs.Clock.{seenBy, seenList}
+use Rattle.circuit.specs.Clock.{seenList}
 use Rattle.circuit.proofs.SoundLaws.{sound-size}
 use Rattle.circuit.proofs.ClockLaws.{seenNext, seen-turn, sound-ordered}
 use Rattle.circuit.proofs.ListLaws.{build-none, build-store, build-end}
 use denote.Ref.{now}
-use Prim.Native.Nat.{ℕ, _≤_, _-_, _<_, _+_, suc}
-use mathlib.Core.Path.{_≡_, refl, sym, _∙_, ap}
+use Prim.Native.Nat.{_≤_, _-_, _<_}
+use mathlib.Core.Path.{_≡_, sym, _∙_}
 use native.Mathlib.Omega.{arith}
 use borrow.Author.Needs.{needs}
 use Rattle.circuit.proofs.clock.settle.Statement.{statement}

@@ -1,9 +1,8 @@
 use mathlib.Core.Path.{_≡_, refl, sym, ap, _∙_}
 use denote.Ref.{now}
 use borrow.Author.Tests.{not-true, not-false}
-use Rattle.circuit.specs.Netlist.{netOf, pinCount, reading, sound, readingSays}
-use Rattle.circuit.specs.Answer.{answered, outcome, refused}
-use Rattle.circuit.specs.Clock.{simulatorCall, clockStep, steppedSays}
+use Rattle.circuit.specs.Netlist.{netOf, reading, sound, readingSays}
+use Rattle.circuit.specs.Clock.{simulatorCall, clockStep}
 use Rattle.circuit.proofs.RefusalLaws.{fails-here, fails-later}
 use Rattle.circuit.proofs.SoundLaws.{facts, sound-size}
 use Rattle.circuit.proofs.SimulatorLaws.{simulation-unsound, simulation-refused, simulation-done, slices-fitting}

@@ -1,11 +1,7 @@
 use Rattle.circuit.proofs.SimulatorLaws.{slices-first, slices-second, slices-places}
-use borrow.Author.Tests.{eq-eqb, ne-eqb}
 use Rattle.circuit.specs.Netlist.{netOf}
-use Rattle.circuit.specs.Clock.{slicesFit}
 use denote.Ref.{now}
-use Prim.Native.Nat.{ℕ, _≤_, _-_, _<_, _+_, suc}
-use mathlib.Core.Path.{_≡_, refl, sym, _∙_, ap}
-use native.Mathlib.Omega.{arith}
+use mathlib.Core.Path.{_∙_}
 use borrow.Author.Needs.{needs}
 use Rattle.circuit.proofs.clock.slices_fit.Statement.{statement}
 use Rattle.circuit.proofs.clock.slices_fit.Tie as tie

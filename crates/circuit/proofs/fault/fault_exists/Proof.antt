@@ -1,4 +1,3 @@
-use mathlib.Core.Path.{sym, _∙_}
 use denote.Ref.{now}
 use borrow.Author.Tests.{lt-ltb, le-ltb}
 use Rattle.circuit.specs.Netlist.{netOf}

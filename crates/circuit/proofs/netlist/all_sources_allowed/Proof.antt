@@ -1,11 +1,10 @@
 use borrow.Author.Tests.{not-true, not-false}
 use Rattle.circuit.specs.Netlist.{sourcesAllowed}
 use denote.Ref.{now}
-use Prim.Native.Nat.{ℕ, _≤_, _-_}
+use Prim.Native.Nat.{_≤_, _-_}
 use mathlib.Core.Bool.{true}
 use mathlib.Core.Path.{_≡_, refl, sym, _∙_}
 use native.Mathlib.Omega.{arith}
-use borrow.Author.Needs.{needs}
 use Rattle.circuit.specs.Lists.{every}
 use Rattle.circuit.proofs.ListLaws.{every-more, every-fails, every-done}
 use Rattle.circuit.proofs.netlist.all_sources_allowed.Statement.{statement}

@@ -2,7 +2,7 @@ use Rattle.circuit.proofs.ListLaws.{every-more, every-fails, every-done
 use borrow.Author.Tests.{not-true, not-false}
 use Rattle.circuit.specs.Netlist.{countFits}
 use denote.Ref.{now}
-use Prim.Native.Nat.{ℕ, _≤_, _-_}
+use Prim.Native.Nat.{_≤_, _-_}
 use mathlib.Core.Bool.{true}
 use mathlib.Core.Path.{_≡_, refl, sym, _∙_}
 use native.Mathlib.Omega.{arith}

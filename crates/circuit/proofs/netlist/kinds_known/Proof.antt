@@ -2,9 +2,9 @@ use Rattle.circuit.proofs.ListLaws.{every-more, every-fails, every-done
 use borrow.Author.Tests.{le-leb, lt-leb}
 use Rattle.circuit.specs.Netlist.{kindKnown}
 use denote.Ref.{now}
-use Prim.Native.Nat.{ℕ, _≤_, _-_}
+use Prim.Native.Nat.{_≤_, _-_}
 use mathlib.Core.Bool.{true}
-use mathlib.Core.Path.{_≡_, refl, sym, _∙_}
+use mathlib.Core.Path.{_≡_, refl, sym}
 use native.Mathlib.Omega.{arith}
 use borrow.Author.Needs.{needs}
 use Rattle.circuit.specs.Lists.{every}

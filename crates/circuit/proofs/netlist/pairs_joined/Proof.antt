@@ -1,13 +1,12 @@
-use lib.Dec.{eqb}
-use mathlib.Core.Path.{_≡_, refl, sym, _∙_, ap}
+use mathlib.Core.Path.{_≡_, refl}
 use native.Mathlib.Numerals.{add-one}
 use Rattle.circuit.proofs.ListLaws.{every-more, every-fails, every-done}
 use borrow.Author.Tests.{eq-eqb, ne-eqb}
 use Rattle.circuit.specs.Netlist.{pairJoined, pairStart}
 use denote.Ref.{now}
-use Prim.Native.Nat.{ℕ, _≤_, _-_}
+use Prim.Native.Nat.{_≤_, _-_}
 use mathlib.Core.Bool.{true}
-use mathlib.Core.Path.{_≡_, refl, sym, _∙_}
+use mathlib.Core.Path.{_≡_, refl}
 use native.Mathlib.Omega.{arith}
 use borrow.Author.Needs.{needs}
 use Rattle.circuit.specs.Lists.{every}

@@ -1,13 +1,8 @@
-use mathlib.Core.Bool.{true, false}
 use denote.Ref.{now}
-use lib.ListN.{length}
-use lib.Dec.{leb}
-use Rattle.circuit.specs.Netlist.{nodeCount, pinCount, sizesAllowed}
 use Rattle.circuit.proofs.RefusalLaws.{fails-here, fails-later}
 use Rattle.circuit.proofs.NetlistLaws.{read-refused, read-sound}
-use mathlib.Core.Path.{_≡_, refl, sym, _∙_}
+use mathlib.Core.Path.{refl, sym, _∙_}
 use borrow.Author.Tests.{le-leb, lt-leb, eq-eqb, ne-eqb, not-true, not-false}
-use Rattle.circuit.specs.Netlist.{reading}
 use borrow.Author.Needs.{needs}
 use Rattle.circuit.proofs.netlist.read.Statement.{statement}
 use Rattle.circuit.proofs.netlist.read.Tie as tie

@@ -1,4 +1,4 @@
-use borrow.Author.Tests.{le-leb, lt-leb, lt-ltb, le-ltb, leb-true}
+use borrow.Author.Tests.{le-leb, lt-leb, lt-ltb, le-ltb}
 use Rattle.circuit.specs.Netlist.{sizesAllowed}
 use Rattle.circuit.proofs.netlist.sizes_allowed.Statement.{statement}
 use Rattle.circuit.proofs.netlist.sizes_allowed.Tie as tie
