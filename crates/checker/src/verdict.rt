@@ -1,6 +1,6 @@
 // The checker: reads a certificate's steps one after the other, and judges whether both branches close.
 ghost use lib.Dec.{leb, ltb};
-ghost use mathlib.Core.Bool.{_&&_, true};
+ghost use mathlib.Core.Bool.{_&&_, cond, true};
 ghost use mathlib.Core.List.{List};
 ghost use mathlib.Core.Option.{Option};
 ghost use mathlib.Core.Path.{_≡_};
@@ -12,6 +12,7 @@ ghost use Rattle.circuit.specs.Netlist.{Net, netOf, pinCount, reading, sound};
 ghost use Rattle.checker.specs.Statement.{Redundant};
 ghost use Rattle.checker.specs.Window.{Branch, begin, presentBelow};
 ghost use Rattle.checker.specs.Certificate.{cOf, fOf, faultOf, framesOf, headLength, pairsRight, runOffset, splitFrame, splitNode, stepsIn};
+ghost use Rattle.checker.specs.declared.verdict.Judgement.{Judgement};
 ghost use Rattle.checker.specs.Checker.{accepted, checkedSays, checkerCall, checking, judgement, replay, replayed, verdict};
 use crate::certificate::Head;
 use crate::certificate::head_of;
@@ -37,6 +38,17 @@ pub enum Judgement {
     NotAllowed,
     StaysOpen,
     Closes,
+}
+
+// What is found of a branch whose steps are all allowed.
+fn judgement_of(closes: bool) -> Judgement
+    ensures { λ r. ⌜ r ≡ cond closes Judgement.Closes Judgement.StaysOpen ⌝ }
+{
+    if closes {
+        Judgement::Closes
+    } else {
+        Judgement::StaysOpen
+    }
 }
 
 // Judges the branch of the value v, whose run has so many steps.
@@ -76,11 +88,7 @@ fn judge_branch(
     if closed {
         return Judgement::Closes;
     }
-    if effect_dies(netlist, fault, c, head.f, known, marks) {
-        Judgement::Closes
-    } else {
-        Judgement::StaysOpen
-    }
+    judgement_of(effect_dies(netlist, fault, c, head.f, known, marks))
 }
 
 // Judges branch v, whose steps stand in the certificate's part from the offset of its pair on.

@@ -5,7 +5,7 @@ use Prim.Native.Nat.{ℕ, _≤_, _-_, _+_, _*_}
 use native.Mathlib.Omega.{arith}
 use mathlib.Core.Path.{_≡_, _∙_, ap, sym, subst}
 use mathlib.Core.List.{List, [], _∷_}
-use mathlib.Core.Bool.{Bool, true, false}
+use mathlib.Core.Bool.{Bool}
 use lib.ListN.{drop, length}
 use denote.Ref.{now}
 use borrow.Author.Tests.{not-true, not-false}
@@ -27,6 +27,7 @@ use Rattle.checker.proofs.verdict.judge_branch.Lts as lts
 use Rattle.checker.proofs.follow.step_follows.Reads as step-follows-reads
 use Rattle.checker.proofs.step.step_at.Reads as step-at-reads
 use Rattle.checker.proofs.trace.effect_dies.Reads as effect-dies-reads
+use Rattle.checker.proofs.verdict.judgement_of.Reads as judgement-of-reads
 use Rattle.checker.proofs.window.begin_branch.Reads as begin-branch-reads
 use Rattle.checker.proofs.window.enter_value.Reads as enter-value-reads
 use Rattle.checker.proofs.window.place_of.Reads as place-of-reads
@@ -38,7 +39,7 @@ Inv-loop netlist n head w v run steps known₀ marks fault c closed₀ taken₀ 
 abbrev μ-loop : tie.MeasureT-loop
 μ-loop netlist n head w v run steps known₀ marks fault c closed₀ taken₀ known closed taken = steps - taken
 
--- src/verdict.rt:50:9
+-- src/verdict.rt:75:9
 begin-branch-requires : tie.Need-begin-branch-requires Inv-loop μ-loop
 begin-branch-requires c κs = let a = c .before .before .before .before .before .before .args in
     let s = now (a .netlist) in
@@ -53,7 +54,7 @@ begin-branch-requires c κs = let a = c .before .before .before .before .before 
     let fs = fault-says net (h .fault) (c .before .before .before .before .before .before .pre .1 .1 .0) in
     (size, (c .before .before .before .before .before .before .pre .1 .0 .0, ((omega (arith, fs .0, size), fs .1), (omega (arith, c .before .before .before .before .before .before .pre .1 .1 .1 .1 .0), (c .before .before .before .before .before .before .pre .1 .1 .1 .1 .1, c .before .before .before .before .before .before .pre .1 .1 .1 .1 .2, c .before .before .before .before .before .before .pre .1 .1 .1 .1 .3)))))
 
--- src/verdict.rt:52:5
+-- src/verdict.rt:77:5
 loop-holds : tie.Need-loop-holds Inv-loop μ-loop
 loop-holds c = let a = c .before .before .before .before .before .before .before .before .before .args in
     let s = now (a .netlist) in
@@ -78,23 +79,23 @@ loop-holds c = let a = c .before .before .before .before .before .before .before
       },
     )
 
--- src/verdict.rt:53:47
+-- src/verdict.rt:78:47
 mul-tail : tie.Need-mul-tail Inv-loop μ-loop
 mul-tail c = omega (arith, c .before .before .before .before .before .before .before .before .before .before .before .pre .1 .1 .1 .0)
 
--- src/verdict.rt:53:28
+-- src/verdict.rt:78:28
 tail-requires : tie.Need-tail-requires Inv-loop μ-loop
 tail-requires c κs = search needs
 
--- src/verdict.rt:53:13
+-- src/verdict.rt:78:13
 step-at-requires : tie.Need-step-at-requires Inv-loop μ-loop
 step-at-requires c κs = search needs
 
--- src/verdict.rt:55:13
+-- src/verdict.rt:80:13
 same-length : tie.Need-same-length Inv-loop μ-loop
 same-length c = c .before .before .before .before .loop .inv .1 ∙ sym (c .before .before .before .before .before .before .before .before .before .before .before .before .before .before .pre .1 .0 .0 ∙ ap (λ (x : ℕ). x * c .before .before .before .before .before .before .before .before .before .before .before .before .before .before .args .w) (sound-size (now (c .before .before .before .before .before .before .before .before .before .before .before .before .before .before .args .netlist)) (c .before .before .before .before .before .before .before .before .before .before .before .before .before .before .args .n) (pinCount (now (c .before .before .before .before .before .before .before .before .before .before .before .before .before .before .args .netlist))) (c .before .before .before .before .before .before .before .before .before .before .before .before .before .before .pre .0)))
 
--- src/verdict.rt:55:13
+-- src/verdict.rt:80:13
 returns : tie.Need-returns Inv-loop μ-loop
 returns c = let a = c .before .before .before .before .before .before .before .before .before .before .before .before .before .before .args in
     let s = now (a .netlist) in
@@ -113,15 +114,15 @@ returns c = let a = c .before .before .before .before .before .before .before .b
     let t = subst (λ (x : Bool). Reached net S (a .w) ss (st ∷ left) b₀ (l .known) x) (c .if1 .taken) r in
     judged-refused net o (linesOf (h .fault)) (h .c) (h .f) (a .w) ss b₀ (l .known) (after-contradiction net o S (a .w) ss left b₀ (l .known) st t)
 
--- src/verdict.rt:57:13
+-- src/verdict.rt:82:13
 step-follows-requires : tie.Need-step-follows-requires Inv-loop μ-loop
 step-follows-requires c κs = search needs
 
--- src/verdict.rt:58:13
+-- src/verdict.rt:83:13
 same-length-2 : tie.Need-same-length-2 Inv-loop μ-loop
 same-length-2 c = c .before .before .before .before .before .before .before .loop .inv .1 ∙ sym (c .before .before .before .before .before .before .before .before .before .before .before .before .before .before .before .before .before .pre .1 .0 .0 ∙ ap (λ (x : ℕ). x * c .before .before .before .before .before .before .before .before .before .before .before .before .before .before .before .before .before .args .w) (sound-size (now (c .before .before .before .before .before .before .before .before .before .before .before .before .before .before .before .before .before .args .netlist)) (c .before .before .before .before .before .before .before .before .before .before .before .before .before .before .before .before .before .args .n) (pinCount (now (c .before .before .before .before .before .before .before .before .before .before .before .before .before .before .before .before .before .args .netlist))) (c .before .before .before .before .before .before .before .before .before .before .before .before .before .before .before .before .before .pre .0)))
 
--- src/verdict.rt:58:13
+-- src/verdict.rt:83:13
 returns-2 : tie.Need-returns-2 Inv-loop μ-loop
 returns-2 c = let a = c .before .before .before .before .before .before .before .before .before .before .before .before .before .before .before .before .before .args in
     let s = now (a .netlist) in
@@ -142,27 +143,27 @@ returns-2 c = let a = c .before .before .before .before .before .before .before 
     let e = ap (follows net S (a .w) (knownIn (l .known) (net .size))) (sym q) ∙ sym (c .before .step-follows .ensures) ∙ not-true _ (c .if2 .taken) in
     judged-refused net o (linesOf (h .fault)) (h .c) (h .f) (a .w) ss b₀ (l .known) (not-following net o S (a .w) ss left b₀ (l .known) st t e)
 
--- src/verdict.rt:60:60
+-- src/verdict.rt:85:60
 cast-place-of : tie.Need-cast-place-of Inv-loop μ-loop
 cast-place-of c = search needs
 
--- src/verdict.rt:60:37
+-- src/verdict.rt:85:37
 place-of-requires : tie.Need-place-of-requires Inv-loop μ-loop
 place-of-requires c κs = search needs
 
--- src/verdict.rt:60:9
+-- src/verdict.rt:85:9
 enter-value-requires : tie.Need-enter-value-requires Inv-loop μ-loop
 enter-value-requires c κs = search needs
 
--- src/verdict.rt:61:9
+-- src/verdict.rt:86:9
 add-taken : tie.Need-add-taken Inv-loop μ-loop
 add-taken c = omega (arith, c .before .before .before .before .before .before .before .before .before .before .before .before .before .before .before .before .before .before .before .before .before .before .before .pre .1 .1 .1 .0)
 
--- src/verdict.rt:52:5
+-- src/verdict.rt:77:5
 loop-less : tie.Need-loop-less Inv-loop μ-loop
 loop-less c = omega arith
 
--- src/verdict.rt:52:5
+-- src/verdict.rt:77:5
 loop-again : tie.Need-loop-again Inv-loop μ-loop
 loop-again c = let a = c .before .before .before .before .before .before .before .before .before .before .before .before .before .before .before .before .before .before .before .before .before .before .before .args in
     let s = now (a .netlist) in
@@ -189,11 +190,11 @@ loop-again c = let a = c .before .before .before .before .before .before .before
       subst (λ (x : Entered). Reached net S (a .w) ss left b₀ (x .bytes) (x .closed)) (sym n) g,
     )
 
--- src/verdict.rt:64:9
+-- src/verdict.rt:89:9
 same-length-3 : tie.Need-same-length-3 Inv-loop μ-loop
 same-length-3 c = c .before .before .loop .inv .1 ∙ sym (c .before .before .before .before .before .before .before .before .before .before .before .before .pre .1 .0 .0 ∙ ap (λ (x : ℕ). x * c .before .before .before .before .before .before .before .before .before .before .before .before .args .w) (sound-size (now (c .before .before .before .before .before .before .before .before .before .before .before .before .args .netlist)) (c .before .before .before .before .before .before .before .before .before .before .before .before .args .n) (pinCount (now (c .before .before .before .before .before .before .before .before .before .before .before .before .args .netlist))) (c .before .before .before .before .before .before .before .before .before .before .before .before .pre .0)))
 
--- src/verdict.rt:64:9
+-- src/verdict.rt:89:9
 returns-3 : tie.Need-returns-3 Inv-loop μ-loop
 returns-3 c = let a = c .before .before .before .before .before .before .before .before .before .before .before .before .args in
     let s = now (a .netlist) in
@@ -211,19 +212,23 @@ returns-3 c = let a = c .before .before .before .before .before .before .before 
     let r = subst (λ (x : List Step). Reached net S (a .w) ss x b₀ (l .known) (l .closed)) (steps-none (a .steps) (l .taken) run (c .before .loop-test .left)) (l .inv .2) in
     judged-contradicted net o (linesOf (h .fault)) (h .c) (h .f) (a .w) ss b₀ (l .known) (subst (λ (x : Bool). Reached net S (a .w) ss [] b₀ (l .known) x) (c .if3 .taken) r)
 
--- src/verdict.rt:66:8
+-- src/verdict.rt:91:18
 effect-dies-requires : tie.Need-effect-dies-requires Inv-loop μ-loop
 effect-dies-requires c κs = search needs
 
--- src/verdict.rt:40:1
+-- src/verdict.rt:91:5
+judgement-of-requires : tie.Need-judgement-of-requires Inv-loop μ-loop
+judgement-of-requires c κs = search needs
+
+-- src/verdict.rt:55:1
 same-length-4 : tie.Need-same-length-4 Inv-loop μ-loop
 same-length-4 c = c .before .before .before .before .before .before .before .before .loop .inv .1 ∙ sym (c .before .before .before .before .before .before .before .before .before .before .before .before .before .before .before .before .before .before .pre .1 .0 .0 ∙ ap (λ (x : ℕ). x * c .before .before .before .before .before .before .before .before .before .before .before .before .before .before .before .before .before .before .args .w) (sound-size (now (c .before .before .before .before .before .before .before .before .before .before .before .before .before .before .before .before .before .before .args .netlist)) (c .before .before .before .before .before .before .before .before .before .before .before .before .before .before .before .before .before .before .args .n) (pinCount (now (c .before .before .before .before .before .before .before .before .before .before .before .before .before .before .before .before .before .before .args .netlist))) (c .before .before .before .before .before .before .before .before .before .before .before .before .before .before .before .before .before .before .pre .0)))
 
--- src/verdict.rt:40:1
+-- src/verdict.rt:55:1
 same-length-5 : tie.Need-same-length-5 Inv-loop μ-loop
 same-length-5 c = c .before .before .before .effect-dies .kept .1 .1 .1 .1 .1 .0
 
--- src/verdict.rt:40:1
+-- src/verdict.rt:55:1
 returns-4 : tie.Need-returns-4 Inv-loop μ-loop
 returns-4 c = let a = c .before .before .before .before .before .before .before .before .before .before .before .before .before .before .before .before .before .before .args in
     let s = now (a .netlist) in
@@ -245,39 +250,7 @@ returns-4 c = let a = c .before .before .before .before .before .before .before 
     let g : net .size * (h .f + 1) ≤ net .size * a .w = mul-le-mul-left (net .size) (omega (arith, w)) in
     let m = c .before .before .before .before .before .before .before .before .before .before .before .before .before .before .before .before .before .before .pre .1 .0 .1 ∙ ap (λ (x : ℕ). x * a .w) size in
     let d = ap (λ (x : Traced). x .dies) (c .before .before .before .effect-dies .ensures ∙ sym (tracing-long net (linesOf (h .fault)) (h .c) (h .f) kn (now (a .marks)) (omega (arith, g, m)))) in
-    judged-traced net o (linesOf (h .fault)) (h .c) (h .f) (a .w) ss b₀ (l .known) (omega (arith, w)) true (sym (c .if4 .taken) ∙ d) t
-
--- src/verdict.rt:40:1
-same-length-6 : tie.Need-same-length-6 Inv-loop μ-loop
-same-length-6 c = c .before .before .before .before .before .before .before .before .loop .inv .1 ∙ sym (c .before .before .before .before .before .before .before .before .before .before .before .before .before .before .before .before .before .before .pre .1 .0 .0 ∙ ap (λ (x : ℕ). x * c .before .before .before .before .before .before .before .before .before .before .before .before .before .before .before .before .before .before .args .w) (sound-size (now (c .before .before .before .before .before .before .before .before .before .before .before .before .before .before .before .before .before .before .args .netlist)) (c .before .before .before .before .before .before .before .before .before .before .before .before .before .before .before .before .before .before .args .n) (pinCount (now (c .before .before .before .before .before .before .before .before .before .before .before .before .before .before .before .before .before .before .args .netlist))) (c .before .before .before .before .before .before .before .before .before .before .before .before .before .before .before .before .before .before .pre .0)))
-
--- src/verdict.rt:40:1
-same-length-7 : tie.Need-same-length-7 Inv-loop μ-loop
-same-length-7 c = c .before .before .before .effect-dies .kept .1 .1 .1 .1 .1 .0
-
--- src/verdict.rt:40:1
-returns-5 : tie.Need-returns-5 Inv-loop μ-loop
-returns-5 c = let a = c .before .before .before .before .before .before .before .before .before .before .before .before .before .before .before .before .before .before .args in
-    let s = now (a .netlist) in
-    let net = netOf s in
-    let h = a .head in
-    let S = presentBelow (h .c) (linesOf (h .fault)) in
-    let run = now (a .run) in
-    let ss = stepsIn (a .steps) run in
-    let b₀ = begin net S (a .w) (h .node) (h .frame) (a .v) in
-    let size = sound-size s (a .n) (pinCount s) (c .before .before .before .before .before .before .before .before .before .before .before .before .before .before .before .before .before .before .pre .0) in
-    let o = sound-ordered s (a .n) (pinCount s) (c .before .before .before .before .before .before .before .before .before .before .before .before .before .before .before .before .before .before .pre .0) in
-    let l = c .before .before .before .before .before .before .before .before .loop in
-    let st = stepOf (drop (7 * l .taken) run) in
-    let left = stepsIn (a .steps - (l .taken + 1)) (drop (7 * (l .taken + 1)) run) in
-    let r = subst (λ (x : List Step). Reached net S (a .w) ss x b₀ (l .known) (l .closed)) (steps-none (a .steps) (l .taken) run (c .before .before .before .before .before .before .before .loop-test .left)) (l .inv .2) in
-    let t = subst (λ (x : Bool). Reached net S (a .w) ss [] b₀ (l .known) x) (c .before .before .before .before .before .before .if3 .left) r in
-    let w = c .before .before .before .before .before .before .before .before .before .before .before .before .before .before .before .before .before .before .pre .1 .1 .1 .1 .0 in
-    let kn = knownIn (l .known) (net .size) in
-    let g : net .size * (h .f + 1) ≤ net .size * a .w = mul-le-mul-left (net .size) (omega (arith, w)) in
-    let m = c .before .before .before .before .before .before .before .before .before .before .before .before .before .before .before .before .before .before .pre .1 .0 .1 ∙ ap (λ (x : ℕ). x * a .w) size in
-    let d = ap (λ (x : Traced). x .dies) (c .before .before .before .effect-dies .ensures ∙ sym (tracing-long net (linesOf (h .fault)) (h .c) (h .f) kn (now (a .marks)) (omega (arith, g, m)))) in
-    judged-traced net o (linesOf (h .fault)) (h .c) (h .f) (a .w) ss b₀ (l .known) (omega (arith, w)) false (sym (c .if4 .left) ∙ d) t
+    c .judgement-of .ensures ∙ judged-traced net o (linesOf (h .fault)) (h .c) (h .f) (a .w) ss b₀ (l .known) (omega (arith, w)) (c .before .before .before .effect-dies .result) d t
 
 pub judge-branch-spec : {M : Type 1} → statement M
 judge-branch-spec =
@@ -304,9 +277,7 @@ judge-branch-spec =
     same-length-3
     returns-3
     effect-dies-requires
+    judgement-of-requires
     same-length-4
     same-length-5
-    returns-4
-    same-length-6
-    same-length-7
-    returns-5)
+    returns-4)
