@@ -84,8 +84,9 @@ pub extern "C" fn leverpeach_simulate(
     number_of_step(circuit::simulate(netlist, circuit, first, second))
 }
 
-// Whether a certificate is accepted: the refusal's number, or 2^32 + c. Then the fault of the
-// certificate is shown by no pattern from clock c on.
+// Whether a certificate is accepted: the refusal's number, or 2^32 + c. Then, from clock c on, every
+// output of the faulty circuit equals that of the good one started from the values that the faulty
+// one has latched before clock c.
 #[no_mangle]
 pub extern "C" fn leverpeach_check(
     netlist: &[u8],

@@ -31,7 +31,8 @@ untouchedValue (suc m) v = 2
 
 -- One frame. D has the faulted lines at frame c, and none from c + 1 on; v what is known in the frame.
 module _ (net : Net) (D : StuckLines) (v : ℕ → ℕ) where
-  -- A pin is touched if its source is. ms has the marks of the nodes.
+  -- A faulted pin at frame c is touched unless its source is known to be u; any other pin is touched if its source is. ms has the marks
+  -- of the nodes.
   unfoldable pub pinMark : (ℕ → ℕ) → ℕ → ℕ → ℕ → ℕ
   pinMark ms n k m = siteMark (D .pin n k) (v m) (ms m)
 

@@ -54,12 +54,13 @@ module _ (net : Net) (s : StuckLines) (v : ℕ → ℕ) where
         | false ↦ elim (isUnknown (s .pin n k) && differ (gate (net .kind n) (set vs k (neg w))) o) [ true ↦ w | false ↦ 2 ]
       ]
 
--- What is known, as it lies in bytes: frame by frame, a byte for each of N nodes. A place past the end counts as known to be 0, so a
--- window of W frames takes N × W bytes.
+-- What is known, as it lies in bytes: frame by frame, a byte for each of N nodes; a window of W frames takes N × W bytes. A place past
+-- the end counts as known to be 0.
 abbrev pub knownIn : List ℕ → ℕ → ℕ → ℕ → ℕ
 knownIn bytes N n t = at bytes (t * N + n)
 
--- the split's value and those concluded so far (frame by frame, 2 for unknown), the steps made, and whether a contradiction was met
+-- the split's value (unless it is opposite to a held one) and those concluded so far (frame by frame, 2 for unknown), the steps made,
+-- and whether a contradiction was met
 pub record Branch : Type 0 where
   pub values : List ℕ
   pub steps : List Step
@@ -93,7 +94,8 @@ module _ (net : Net) (S : ℕ → StuckLines) where
       let p = pinFrame (net .kind n) t in
       record { node = lineNode net n (suc k); frame = lineFrame net n t (suc k); value = pinConclusion net (S p) (λ m. kn m p) n (kn n t) k; via = n; during = t }
 
-  -- Each new value is a step. A conclusion opposite to a known value is the last step and closes the branch.
+  -- Each new value is a step. A conclusion opposite to a known value is the last step and closes the branch. That it is not the same as
+  -- the known value is seen to before: `follows` in Checker.
   unfoldable pub enter : Branch → Step → Branch
   enter b s =
       elim (isUnknown (known (b .values) (s .node) (s .frame))) [
