@@ -1,9 +1,13 @@
 -- Laws of the reader's answer, and of the circuit that a netlist's bytes describe.
+use mathlib.Core.Bool.{Bool, false, true}
 use mathlib.Core.List.{List}
 use mathlib.Core.Option.{Option, none, some}
-use mathlib.Core.Path.{_≡_, ap, sym}
-use Prim.Native.Nat.{_<_, ℕ}
+use mathlib.Core.Path.{_≡_, ap, refl, sym}
+use Prim.Native.Nat.{_+_, _-_, _<_, ℕ}
+use native.Mathlib.Omega.{arith}
+use lib.Dec.{ltb}
 use lib.ListN.{length}
+use borrow.Author.Tests.{le-ltb, lt-ltb, ltb-false, ltb-true}
 use Rattle.circuit.proofs.ListLaws.{getD-build, length-build}
 use Rattle.circuit.proofs.RefusalLaws.{FirstFails, Passed, refusal-at, refusal-by}
 use Rattle.circuit.specs.Answer.{Answer, refused}
@@ -31,3 +35,11 @@ pins-length bs n = length-build (λ _. sourceOf bs n) (lengthOf bs n)
 pub pins-at : (bs : List ℕ) (n k : ℕ) → k < lengthOf bs n → at (netOf bs .pins n) k ≡ sourceOf bs n k
 unfolding netOf pinsOf
 pins-at bs n k h = getD-build (λ _. sourceOf bs n) 0 (lengthOf bs n) h
+
+-- a number stands at every place but the last
+pub before-last : (i n : ℕ) → 1 < n → ltb i (n - 1) ≡ ltb (i + 1) n
+before-last i n h = go (ltb (i + 1) n) refl
+  where
+    go : (b : Bool) → ltb (i + 1) n ≡ b → ltb i (n - 1) ≡ b
+    go true e = lt-ltb i (n - 1) (omega (arith, ltb-true (i + 1) n e))
+    go false e = le-ltb i (n - 1) (omega (arith, ltb-false (i + 1) n e))

@@ -12,7 +12,7 @@ use borrow.Author.Tests.{eqb-false, eqb-true, eq-eqb, le-leb, leb-true, lt-ltb, 
 use Rattle.circuit.proofs.BoolLaws.{and-left, and-right}
 use Rattle.circuit.proofs.ListLaws.{every-at, every-by}
 use Rattle.circuit.proofs.NetlistLaws.{read-sound}
-use Rattle.circuit.proofs.RefusalLaws.{FirstFails, NoneSmaller, Passed, refusal-none, refusal-smallest, refusal-some}
+use Rattle.circuit.proofs.RefusalLaws.{FirstFails, NoneSmaller, Passed, refusal-none, refusal-above, refusal-smallest, refusal-some}
 use Rattle.circuit.specs.Answer.{answered, refusal, refused}
 use Rattle.circuit.specs.Kind.{isFlipFlop, isOutput, ruleOf}
 use Rattle.circuit.specs.Lists.{every}
@@ -249,5 +249,12 @@ refused-first bs k e = go (refusal readerTests bs) refl e
 pub refused-smallest : (bs : List ℕ) (k : ℕ) → reading bs ≡ refused k → NoneSmaller k readerTests bs
 refused-smallest bs k e =
     refusal-smallest 0 readerTests bs k
+    (omega arith, (omega arith, (omega arith, (omega arith, (omega arith, (omega arith, (omega arith, tt)))))))
+    (refused-first bs k e)
+
+-- no refusal has the number 0
+pub refused-positive : (bs : List ℕ) (k : ℕ) → reading bs ≡ refused k → 1 ≤ k
+refused-positive bs k e =
+    refusal-above 1 readerTests bs k
     (omega arith, (omega arith, (omega arith, (omega arith, (omega arith, (omega arith, (omega arith, tt)))))))
     (refused-first bs k e)
