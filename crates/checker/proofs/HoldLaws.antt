@@ -9,10 +9,10 @@ use native.Mathlib.Omega.{arith}
 use lib.Arith.{digits-div, digits-lt, digits-mod}
 use lib.Dec.{eqb, leb, ltb}
 use borrow.Author.Tests.{leb-true, ltb-true}
-use lib.ListN.{getD, getD-replicate, length, replicate, set}
+use lib.ListN.{getD, getD-replicate, length, length-replicate, length-set, replicate, set}
 use lib.Seq.{getD-set-other, getD-set-same}
 use Rattle.checker.proofs.RelationLaws.{absent-from, present-below}
-use Rattle.checker.specs.Window.{Branch, Holds, begin, held, known, presentBelow}
+use Rattle.checker.specs.Window.{Branch, Entered, Holds, begin, beginAt, beginIn, entered, held, holdFrames, known, presentBelow}
 use Rattle.circuit.proofs.BoolLaws.{and-left, and-right}
 use Rattle.circuit.proofs.FaultLaws.{other-nodes}
 use Rattle.circuit.proofs.ValueLaws.{stuck-free, stuck-known}
@@ -53,6 +53,12 @@ held-value f h = go (eqb (f .node) (f .node) && isWhole (f .site))
 pub none-held : (f : Fault) (m : ℕ) → (m ≡ f .node → ⊥) → 2 ≤ linesOf f .node m
 none-held f m d = omega (arith, other-nodes f m (λ e _. d (sym e)))
 
+-- holding a node keeps the slice's length
+pub held-length : (N : ℕ) (f : Fault) (c : ℕ) (bytes : List ℕ) → length (holdFrames N f c bytes) ≡ length bytes
+unfolding holdFrames
+held-length N f zero bytes = refl
+held-length N f (suc t) bytes = simp length-set (held-length N f t bytes)
+
 module _ (net : Net) where
   -- before anything is held, a slice of unknown values
   pub holds-start : (f : StuckLines) (W : ℕ) → Holds net (presentBelow 0 f) W (replicate (net .size * W) 2) (replicate (net .size * W) 2)
@@ -65,7 +71,7 @@ module _ (net : Net) where
   pub holds-frame : (f : StuckLines) (W t i : ℕ) (l bytes : List ℕ) → i < net .size → t < W → length bytes ≡ net .size * W → f .node i ≡ stuckOr (f .node i) (getD l (t * net .size + i) 2)
       → ((m : ℕ) → (m ≡ i → ⊥) → 2 ≤ f .node m)
       → Holds net (presentBelow t f) W l bytes
-      → Holds net (presentBelow (t + 1) f) W l (set bytes (t * net .size + i) (f .node i))
+      → Holds net (presentBelow (suc t) f) W l (set bytes (t * net .size + i) (f .node i))
   unfolding Holds known held
   holds-frame f W t i l bytes hi ht len e others p n u hn hu = go (ℕ-discrete u t) (ℕ-discrete n i)
     where
@@ -78,17 +84,17 @@ module _ (net : Net) where
       apart : (u * net .size + n ≡ t * net .size + i → ⊥) → at (set bytes (t * net .size + i) (f .node i)) (u * net .size + n) ≡ stuckOr (presentBelow t f u .node n) value
       apart d = getD-set-other bytes (t * net .size + i) (u * net .size + n) (f .node i) 0 d ∙ p n u hn hu
 
-      now-present : u ≡ t → presentBelow (t + 1) f u ≡ f
-      now-present z = present-below (t + 1) f u (omega (arith, z))
+      now-present : u ≡ t → presentBelow (suc t) f u ≡ f
+      now-present z = present-below (suc t) f u (omega (arith, z))
 
       before : u ≡ t → presentBelow t f u ≡ noneStuck
       before z = absent-from t f u (omega (arith, z))
 
-      unchanged : (u ≡ t → ⊥) → Dec (u < t) → presentBelow t f u ≡ presentBelow (t + 1) f u
-      unchanged d (yes q) = present-below t f u q ∙ sym (present-below (t + 1) f u (omega arith))
-      unchanged d (no q) = absent-from t f u (omega arith) ∙ sym (absent-from (t + 1) f u (omega arith))
+      unchanged : (u ≡ t → ⊥) → Dec (u < t) → presentBelow t f u ≡ presentBelow (suc t) f u
+      unchanged d (yes q) = present-below t f u q ∙ sym (present-below (suc t) f u (omega arith))
+      unchanged d (no q) = absent-from t f u (omega arith) ∙ sym (absent-from (suc t) f u (omega arith))
 
-      go : Dec (u ≡ t) → Dec (n ≡ i) → at (set bytes (t * net .size + i) (f .node i)) (u * net .size + n) ≡ stuckOr (presentBelow (t + 1) f u .node n) value
+      go : Dec (u ≡ t) → Dec (n ≡ i) → at (set bytes (t * net .size + i) (f .node i)) (u * net .size + n) ≡ stuckOr (presentBelow (suc t) f u .node n) value
       go (yes z) (yes w) =
           subst (λ (k : ℕ). at (set bytes (t * net .size + i) (f .node i)) k ≡ f .node i) (λ j. sym z j * net .size + sym w j) (getD-set-same bytes (t * net .size + i) (f .node i) 0 (omega (arith, len, place-within N W i t hi ht)))
           ∙ e
@@ -170,3 +176,57 @@ module _ (net : Net) where
         go (suc zero) (suc zero) h e = refl
         go (suc zero) (suc (suc v)) h e = absurd (omega arith)
         go (suc (suc x)) v h e = refl
+
+  -- a branch's start in a work slice that is a window of W frames
+  module _ (f : Fault) (W : ℕ) (hf : f .node < net .size) (hu : f .stuck < 2) where
+    -- the faulted node is held in the first c frames, and nothing else is known
+    pub holds-frames : (c : ℕ) → c ≤ W → Holds net (presentBelow c (linesOf f)) W (replicate (net .size * W) 2) (holdFrames (net .size) f c (replicate (net .size * W) 2))
+    unfolding holdFrames
+    holds-frames zero h = holds-start (linesOf f) W
+    holds-frames (suc t) h =
+        let g : t < W = omega arith in
+        let N : ℕ = net .size in
+        let l : List ℕ = replicate (N * W) 2 in
+        let e : linesOf f .node (f .node) ≡ stuckOr (linesOf f .node (f .node)) (getD l (t * N + f .node) 2) = held-value f hu ∙ ap (stuckOr (linesOf f .node (f .node))) (sym (getD-replicate (N * W) (t * N + f .node) 2 2 (place-within N W (f .node) t hf g))) in
+        holds-frame (linesOf f) W t (f .node) l (holdFrames N f t l) hf g (held-length N f t l ∙ length-replicate (N * W) 2) e (none-held f) (holds-frames t (omega arith))
+
+    -- `beginIn` is `begin`: the branch closes at the same splits, and the bytes hold what is known in it
+    module _ (c n t v : ℕ) (hc : c ≤ W) (hn : n < net .size) (ht : t < W) (hv : v < 2) where
+      begins : (beginIn (net .size) f c (net .size * W) n t v .closed ≡ begin net (presentBelow c (linesOf f)) W n t v .closed)
+          × Holds net (presentBelow c (linesOf f)) W (begin net (presentBelow c (linesOf f)) W n t v .values) (beginIn (net .size) f c (net .size * W) n t v .bytes)
+      unfolding Holds beginIn beginAt
+      begins = go (differ (known net S [] n t) v) refl
+        where
+          S : ℕ → StuckLines
+          S = presentBelow c (linesOf f)
+
+          place : ℕ
+          place = t * net .size + n
+
+          l : List ℕ
+          l = replicate (net .size * W) 2
+
+          bytes : List ℕ
+          bytes = holdFrames (net .size) f c l
+
+          test : differ (at bytes place) v ≡ differ (known net S [] n t) v
+          test = ap (λ (x : ℕ). differ x v) (holds-frames c hc n t hn ht ∙ start-known S W n t v hn ht)
+
+          both : Branch → Entered → Type 0
+          both b e = (e .closed ≡ b .closed) × Holds net S W (b .values) (e .bytes)
+
+          by-test : Bool → Entered
+          by-test b = cond b (entered true bytes) (entered false (set bytes place v))
+
+          go : (b : Bool) → differ (known net S [] n t) v ≡ b → both (begin net S W n t v) (by-test (differ (at bytes place) v))
+          go true e = subst (λ (x : Branch). both x (by-test (differ (at bytes place) v))) (sym (begin-closed S W n t v e))
+              (subst (λ (x : Bool). both (record { values = l; steps = []; closed = true }) (by-test x)) (sym (test ∙ e)) (refl, holds-frames c hc))
+          go false e = subst (λ (x : Branch). both x (by-test (differ (at bytes place) v))) (sym (begin-open S W n t v e))
+              (subst (λ (x : Bool). both (record { values = set l place v; steps = []; closed = false }) (by-test x)) (sym (test ∙ e))
+              (refl, holds-set S W n t v l bytes hn ht (held-length (net .size) f c l ∙ length-replicate (net .size * W) 2) (length-replicate (net .size * W) 2) (split-known S W n t v hv e) (holds-frames c hc)))
+
+      pub begin-closed-in : beginIn (net .size) f c (net .size * W) n t v .closed ≡ begin net (presentBelow c (linesOf f)) W n t v .closed
+      begin-closed-in = begins .0
+
+      pub begin-holds-in : Holds net (presentBelow c (linesOf f)) W (begin net (presentBelow c (linesOf f)) W n t v .values) (beginIn (net .size) f c (net .size * W) n t v .bytes)
+      begin-holds-in = begins .1

@@ -24,7 +24,7 @@ module _ (bs : List ℕ) where
   abbrev pub faultOf : Fault
   faultOf = record { node = u16At bs 0; site = siteOf (at bs 2); stuck = at bs 3 }
 
-  -- what stands behind the fault: c, F, the split's node and frame, and the two pairs of offset and length
+  -- what stands behind the fault: c, F, the split's node and frame, and the two pairs of offset and length, then the steps
   abbrev pub restOf : List ℕ
   restOf = drop 4 bs
 

@@ -5,11 +5,12 @@ use mathlib.Core.Path.{_≡_}
 use Prim.Native.Nat.{_*_, _+_, _<_, pred, suc, zero, ℕ}
 use lib.ListN.{getD, replicate, set}
 use Rattle.circuit.specs.Clock.{pinValues}
-use Rattle.circuit.specs.Fault.{StuckLines, noneStuck}
+use Rattle.circuit.specs.Fault.{StuckLines, linesOf, noneStuck}
 use Rattle.circuit.specs.Kind.{controlling, gate, isFlipFlop, isGiven, isInput, ruleOf}
 use Rattle.circuit.specs.Lists.{at}
 use Rattle.circuit.specs.Netlist.{Net}
 use Rattle.circuit.specs.Value.{differ, isUnknown, neg, stuckOr}
+use Rattle.circuit.specs.declared.fault.Fault.{Fault}
 use Rattle.checker.specs.declared.step.Step.{Step}
 
 -- The fault is present in frames below c and absent from c on.
@@ -95,7 +96,7 @@ module _ (net : Net) (S : ℕ → StuckLines) where
       record { node = lineNode net n (suc k); frame = lineFrame net n t (suc k); value = pinConclusion net (S p) (λ m. kn m p) n (kn n t) k; via = n; during = t }
 
   -- Each new value is a step. A conclusion opposite to a known value is the last step and closes the branch. That it is not the same as
-  -- the known value is seen to before: `follows` in Checker.
+  -- the known value is seen to before: `follows` in Checker, `saysNothing` in the finder.
   unfoldable pub enter : Branch → Step → Branch
   enter b s =
       elim (isUnknown (known (b .values) (s .node) (s .frame))) [
@@ -122,3 +123,18 @@ entered closed bytes = record { closed = closed; bytes = bytes }
 
 abbrev pub enterAt : List ℕ → ℕ → ℕ → Entered
 enterAt bytes i v = cond (isUnknown (at bytes i)) (entered false (set bytes i v)) (entered true bytes)
+
+-- The start of a branch in a work slice, in a circuit of N nodes: the faulted node is held in the first c frames. Where the fault is
+-- at a pin no node is held, and 2 is stored: unknown, as before.
+unfoldable pub holdFrames : ℕ → Fault → ℕ → List ℕ → List ℕ
+holdFrames N f zero bytes = bytes
+holdFrames N f (suc t) bytes = set (holdFrames N f t bytes) (t * N + f .node) (linesOf f .node (f .node))
+
+-- the split's value enters, unless the byte at its place is opposite to it: that is a contradiction, and the byte stays
+unfoldable pub beginAt : List ℕ → ℕ → ℕ → Entered
+beginAt bytes i v = cond (differ (at bytes i) v) (entered true bytes) (entered false (set bytes i v))
+
+-- Branch v of the split at node n and frame t begins in a slice of so many bytes, whatever stood in it. Where the slice is a window,
+-- this is `begin`: HoldLaws.
+unfoldable pub beginIn : ℕ → Fault → ℕ → ℕ → ℕ → ℕ → ℕ → Entered
+beginIn N f c size n t v = beginAt (holdFrames N f c (replicate size 2)) (t * N + n) v

@@ -72,7 +72,7 @@ fn judge_branch(
 {
     let fault = head.fault;
     let c = head.c;
-    let mut closed = begin_branch(netlist, n, w, fault, c, head.node, head.frame, v, known);
+    let mut closed = begin_branch(netlist, fault, c, head.node, head.frame, v, known);
     let mut taken: usize = 0;
     while taken < steps {
         let step = step_at(circuit::tail(run, 7 * taken));

@@ -1,11 +1,11 @@
 // A window of frames in a work slice: frame by frame, a byte for each node, which holds what is known
 // of the node at that frame. A byte of 2 or more says that nothing is.
 ghost use mathlib.Core.Path.{_≡_};
-ghost use Prim.Native.Nat.{_+_, _*_, _<_, _≤_};
+ghost use Prim.Native.Nat.{_+_, _*_};
 ghost use lib.ListN.{length, replicate, set};
 ghost use Rattle.circuit.specs.Fault.{linesOf};
 ghost use Rattle.circuit.specs.Netlist.{netOf};
-ghost use Rattle.checker.specs.Window.{Holds, begin, enterAt, entered, presentBelow};
+ghost use Rattle.checker.specs.Window.{beginIn, enterAt, entered, holdFrames};
 use circuit::Circuit;
 use circuit::Fault;
 use circuit::UNKNOWN;
@@ -27,12 +27,8 @@ fn hold_frame(n: u16, fault: Fault, frame: u16, known: &mut [u8])
 }
 
 // Puts what is known at the start: below frame c a faulted node is held at its stuck value.
-fn hold_fault(netlist: &[u8], n: u16, w: u16, fault: Fault, c: u8, known: &mut [u8])
-    requires { ⌜ n ≡ netOf (now netlist) .size ⌝ }
-    requires { ⌜ length (now known) ≡ n * w ⌝ }
-    requires { ⌜ (fault .node < n) × (fault .stuck < 2) ⌝ }
-    requires { ⌜ c ≤ w ⌝ }
-    ensures { λ _. ⌜ Holds (netOf (now (netlist .entry))) (presentBelow c (linesOf fault)) w (replicate (netOf (now (netlist .entry)) .size * w) 2) (now (known .exit)) ⌝ }
+fn hold_fault(n: u16, fault: Fault, c: u8, known: &mut [u8])
+    ensures { λ _. ⌜ now (known .exit) ≡ holdFrames n fault c (replicate (length (now (known .entry))) 2) ⌝ }
 {
     circuit::fill(known, UNKNOWN);
     let mut frame: u16 = 0;
@@ -42,11 +38,10 @@ fn hold_fault(netlist: &[u8], n: u16, w: u16, fault: Fault, c: u8, known: &mut [
     }
 }
 
-// Begins a branch: the split has the value v. Says whether that contradicts a held value.
-pub(crate) fn begin_branch(
+// Begins a branch, whatever stood in the slice: the split has the value v. Says whether that contradicts a
+// held value.
+pub fn begin_branch(
     netlist: &[u8],
-    n: u16,
-    w: u16,
     fault: Fault,
     c: u8,
     node: u16,
@@ -54,15 +49,10 @@ pub(crate) fn begin_branch(
     v: u8,
     known: &mut [u8],
 ) -> bool
-    requires { ⌜ n ≡ netOf (now netlist) .size ⌝ }
-    requires { ⌜ length (now known) ≡ n * w ⌝ }
-    requires { ⌜ (fault .node < n) × (fault .stuck < 2) ⌝ }
-    requires { ⌜ c ≤ w ⌝ }
-    requires { ⌜ (node < n) × (frame < w) × (v < 2) ⌝ }
-    ensures { λ r. ⌜ r ≡ begin (netOf (now (netlist .entry))) (presentBelow c (linesOf fault)) w node frame v .closed ⌝ }
-    ensures { λ r. ⌜ Holds (netOf (now (netlist .entry))) (presentBelow c (linesOf fault)) w (begin (netOf (now (netlist .entry))) (presentBelow c (linesOf fault)) w node frame v .values) (now (known .exit)) ⌝ }
+    ensures { λ r. ⌜ entered r (now (known .exit)) ≡ beginIn (netOf (now (netlist .entry)) .size) fault c (length (now (known .entry))) node frame v ⌝ }
 {
-    hold_fault(netlist, n, w, fault, c, known);
+    let n = circuit::node_count(netlist);
+    hold_fault(n, fault, c, known);
     let place = place_of(n, node, frame as u16);
     if circuit::values_differ(circuit::byte_at(known, place), v) {
         return true;

@@ -1,7 +1,7 @@
-use Rattle.checker.proofs.HoldLaws.{fault-says}
+use Rattle.checker.proofs.HoldLaws.{begin-closed-in, begin-holds-in, fault-says}
 use Rattle.checker.proofs.MarkLaws.{tracing-long}
 use native.Mathlib.Nat.{mul-le-mul-left}
-use Prim.Native.Nat.{ℕ, _≤_, _-_, _+_, _*_}
+use Prim.Native.Nat.{ℕ, _<_, _≤_, _-_, _+_, _*_}
 use native.Mathlib.Omega.{arith}
 use mathlib.Core.Path.{_≡_, _∙_, ap, sym, subst}
 use mathlib.Core.List.{List, [], _∷_}
@@ -15,7 +15,7 @@ use Rattle.circuit.specs.Fault.{linesOf}
 use Rattle.circuit.proofs.SoundLaws.{sound-size}
 use Rattle.circuit.proofs.ClockLaws.{sound-ordered}
 use Rattle.checker.specs.declared.step.Step.{Step}
-use Rattle.checker.specs.Window.{Entered, begin, enterAt, knownIn, presentBelow}
+use Rattle.checker.specs.Window.{Entered, Holds, begin, beginIn, enterAt, knownIn, presentBelow}
 use Rattle.checker.specs.Trace.{Traced}
 use Rattle.checker.specs.Checker.{follows, replay}
 use Rattle.checker.specs.Certificate.{stepOf, stepsIn}
@@ -41,18 +41,7 @@ abbrev μ-loop : tie.MeasureT-loop
 
 -- src/verdict.rt:75:9
 begin-branch-requires : tie.Need-begin-branch-requires Inv-loop μ-loop
-begin-branch-requires c κs = let a = c .before .before .before .before .before .before .args in
-    let s = now (a .netlist) in
-    let net = netOf s in
-    let h = a .head in
-    let S = presentBelow (h .c) (linesOf (h .fault)) in
-    let run = now (a .run) in
-    let ss = stepsIn (a .steps) run in
-    let b₀ = begin net S (a .w) (h .node) (h .frame) (a .v) in
-    let size = sound-size s (a .n) (pinCount s) (c .before .before .before .before .before .before .pre .0) in
-    let o = sound-ordered s (a .n) (pinCount s) (c .before .before .before .before .before .before .pre .0) in
-    let fs = fault-says net (h .fault) (c .before .before .before .before .before .before .pre .1 .1 .0) in
-    (size, (c .before .before .before .before .before .before .pre .1 .0 .0, ((omega (arith, fs .0, size), fs .1), (omega (arith, c .before .before .before .before .before .before .pre .1 .1 .1 .1 .0), (c .before .before .before .before .before .before .pre .1 .1 .1 .1 .1, c .before .before .before .before .before .before .pre .1 .1 .1 .1 .2, c .before .before .before .before .before .before .pre .1 .1 .1 .1 .3)))))
+begin-branch-requires c κs = search needs
 
 -- src/verdict.rt:77:5
 loop-holds : tie.Need-loop-holds Inv-loop μ-loop
@@ -67,14 +56,19 @@ loop-holds c = let a = c .before .before .before .before .before .before .before
     let size = sound-size s (a .n) (pinCount s) (c .before .before .before .before .before .before .before .before .before .pre .0) in
     let o = sound-ordered s (a .n) (pinCount s) (c .before .before .before .before .before .before .before .before .before .pre .0) in
     let m = c .before .before .before .before .before .before .before .before .before .pre .1 .0 .0 ∙ ap (λ (x : ℕ). x * a .w) size in
-    let z : a .steps ≡ a .steps - 0 = omega arith in (
+    let z : a .steps ≡ a .steps - 0 = omega arith in
+    let fs = fault-says net (h .fault) (c .before .before .before .before .before .before .before .before .before .pre .1 .1 .0) in
+    let g = c .before .before .before .before .before .before .before .before .before .pre .1 .1 .1 .1 in
+    let hn : h .node < net .size = omega (arith, size, g .1) in
+    let hc : h .c ≤ a .w = omega (arith, g .0) in
+    let began = c .before .before .begin-branch .ensures ∙ ap (λ (x : ℕ). beginIn (net .size) (h .fault) (h .c) x (h .node) (h .frame) (a .v)) m in (
       omega arith,
-      c .before .before .begin-branch .kept .1 .1 .1 .1 .1 .1 .1 .1 .0 ∙ m,
+      c .before .before .begin-branch .kept .1 .1 .1 .1 .1 .1 .0 ∙ m,
       record {
         branch = b₀;
         replays = ap (λ (k : ℕ). replay net S (a .w) (stepsIn k run) b₀) z;
-        holds = c .before .before .begin-branch .ensures .1;
-        same-closed = c .before .before .begin-branch .ensures .0;
+        holds = subst (λ (x : Entered). Holds net S (a .w) (b₀ .values) (x .bytes)) (sym began) (begin-holds-in net (h .fault) (a .w) (fs .0) (fs .1) (h .c) (h .node) (h .frame) (a .v) hc hn (g .2) (g .3));
+        same-closed = ap (λ (x : Entered). x .closed) began ∙ begin-closed-in net (h .fault) (a .w) (fs .0) (fs .1) (h .c) (h .node) (h .frame) (a .v) hc hn (g .2) (g .3);
         full = begin-full net S (a .w) (h .node) (h .frame) (a .v);
       },
     )
