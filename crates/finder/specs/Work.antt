@@ -1,0 +1,39 @@
+-- The sweeps on lent bytes: what the contracts of the functions beneath `find` speak of. Nothing of what the finder answers rests on it.
+use mathlib.Core.Bool.{Bool, not}
+use mathlib.Core.List.{List, [], _∷_}
+use Prim.Native.Nat.{_*_, _+_, ℕ}
+use lib.Seq.{sets}
+use Rattle.circuit.specs.Value.{isUnknown}
+use Rattle.checker.specs.Trace.{mark}
+use Rattle.checker.specs.Window.{enterAt, knownIn}
+use Rattle.checker.specs.declared.step.Step.{Step}
+use Rattle.finder.specs.Sweeps.{BranchState}
+use Rattle.finder.specs.Written.{stepBytes}
+
+-- a branch in lent bytes: what is known, the run of its steps as far as the slice has room, how many they are, and whether it is closed
+pub record Work : Type 0 where
+  pub known : List ℕ
+  pub run : List ℕ
+  pub steps : ℕ
+  pub closed : Bool
+
+abbrev pub work : List ℕ → List ℕ → ℕ → Bool → Work
+work known run steps closed = record { known = known; run = run; steps = steps; closed = closed }
+
+-- a step is entered and written; N: the number of nodes
+unfoldable pub takeIn : ℕ → Work → Step → Work
+takeIn N w s =
+    let e = enterAt (w .known) (s .frame * N + s .node) (s .value) in
+    work (e .bytes) (sets (w .run) (7 * w .steps) (stepBytes s)) (w .steps + 1) (e .closed)
+
+abbrev pub inBytes : ℕ → BranchState Work
+inBytes N = record { closed = λ w. w .closed; knows = λ w. knownIn (w .known) N; takes = takeIn N; made = λ w. w .steps }
+
+-- how many places of a work slice are unknown
+unfoldable pub unknowns : List ℕ → ℕ
+unknowns [] = 0
+unknowns (v ∷ vs) = mark (isUnknown v) + unknowns vs
+
+-- the steps made and those that may come: a place for each unknown value, and one more while the branch is open
+unfoldable pub tally : Work → ℕ
+tally w = w .steps + unknowns (w .known) + mark (not (w .closed))

@@ -1,0 +1,9 @@
+// The finder: tries splits until both branches of one close, and writes that one's certificate.
+mod branch;
+mod search;
+mod split;
+mod sweep;
+mod writer;
+
+pub use search::Finding;
+pub use search::find;
