@@ -1,0 +1,27 @@
+use Rattle.listing.specs.Faults.{firstOf}
+use Rattle.circuit.proofs.NetlistLaws.{pins-length}
+use denote.Ref.{now}
+use borrow.Author.Needs.{needs}
+use Rattle.listing.proofs.faults.first_of.Statement.{statement}
+use Rattle.listing.proofs.faults.first_of.Tie as tie
+use Rattle.listing.proofs.faults.first_of.Reads as reads
+use Rattle.listing.proofs.faults.first_of.Lts as lts
+use Rattle.circuit.proofs.length_of.Reads as length-of-reads
+use Rattle.listing.proofs.faults.first_site.Reads as first-site-reads
+
+-- src/faults.rt:36:27
+length-of-requires : tie.Need-length-of-requires
+length-of-requires c κs = search needs
+
+-- src/faults.rt:36:9
+first-site-requires : tie.Need-first-site-requires
+first-site-requires c κs = search needs
+
+-- src/faults.rt:33:1
+returns : tie.Need-returns
+unfolding firstOf
+returns c = let a = c .before .before .before .args in
+    rw (pins-length (now (a .netlist)) (a .node), c .first-site .ensures, c .before .length-of .ensures)
+
+pub first-of-spec : {M : Type 1} → statement M
+first-of-spec = tie.close (tie.spec length-of-requires first-site-requires returns)

@@ -1,0 +1,28 @@
+use Rattle.listing.proofs.ReportLaws.{begun-writes}
+use Rattle.listing.specs.Turns.{begun}
+use denote.Ref.{now}
+use borrow.Author.Needs.{needs}
+use Rattle.listing.proofs.progress.begin.Statement.{statement}
+use Rattle.listing.proofs.progress.begin.Tie as tie
+use Rattle.listing.proofs.progress.begin.Reads as reads
+use Rattle.listing.proofs.progress.begin.Lts as lts
+use Rattle.circuit.proofs.tail.Reads as tail-reads
+use Rattle.listing.proofs.faults.first_of.Reads as first-of-reads
+
+-- src/progress.rt:43:26
+tail-requires : tie.Need-tail-requires
+tail-requires c κs = search needs
+
+-- src/progress.rt:43:9
+first-of-requires : tie.Need-first-of-requires
+first-of-requires c κs = search needs
+
+-- src/progress.rt:39:1
+returns : tie.Need-returns
+unfolding begun
+returns c = let i = now (c .before .before .before .args .input) in
+    let e = c .first-of .ensures in
+    (rw (e, c .before .tail .ensures), rw (e, c .before .tail .ensures) (begun-writes i))
+
+pub begin-spec : {M : Type 1} → statement M
+begin-spec = tie.close (tie.spec tail-requires first-of-requires returns)
