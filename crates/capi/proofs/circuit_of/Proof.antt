@@ -4,19 +4,19 @@ use Rattle.capi.proofs.circuit_of.Statement.{statement}
 use Rattle.capi.proofs.circuit_of.Tie as tie
 use Rattle.capi.proofs.circuit_of.Reads as reads
 use Rattle.capi.proofs.circuit_of.Lts as lts
-use Rattle.circuit.proofs.site_of.Reads as site-of-reads
+use Rattle.capi.proofs.fault_of.Reads as fault-of-reads
 
--- src/lib.rt:17:9
+-- src/lib.rt:38:9
 returns : tie.Need-returns
 returns c = rw (eq-eqb _ _ (c .if1 .taken))
 
--- src/lib.rt:19:9
-site-of-requires : tie.Need-site-of-requires
-site-of-requires c κs = search needs
+-- src/lib.rt:40:21
+fault-of-requires : tie.Need-fault-of-requires
+fault-of-requires c κs = search needs
 
--- src/lib.rt:13:1
+-- src/lib.rt:34:1
 returns-2 : tie.Need-returns-2
-returns-2 c = rw (ne-eqb _ _ (c .before .if1 .left), c .site-of .ensures)
+returns-2 c = rw (ne-eqb _ _ (c .before .if1 .left), c .fault-of .ensures)
 
 pub circuit-of-spec : {M : Type 1} → statement M
-circuit-of-spec = tie.close (tie.spec returns site-of-requires returns-2)
+circuit-of-spec = tie.close (tie.spec returns fault-of-requires returns-2)
