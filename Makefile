@@ -1,12 +1,14 @@
 # The kit's commands. `make run` and `make test` are the two that a newcomer needs.
-NETLIST ?= examples/p1.net
+NETLIST ?= examples/and2.net
+B ?= 0
+F ?= 0
 
 .PHONY: run test bench fmt tools clean
 
-# Says what the reader finds in NETLIST.
+# Prints the report on NETLIST: the faults marked with c up to B, with F frames behind the fault frame.
 run: tools
-	@scripts/build inspect
-	@target/bin/inspect < "$(NETLIST)"
+	@scripts/build report
+	@scripts/report "$(NETLIST)" "$(B)" "$(F)"
 
 # Proves every crate, tries every edit that the prover must refuse, and runs the Rust tests.
 test: tools

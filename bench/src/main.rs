@@ -1,23 +1,35 @@
-//! Times the library against the Rust model on the same calls and prints one
-//! table. Ends with status 1 if the library takes more than the limit.
+//! Times the library against the Rust model on the same calls and prints two
+//! tables, one of them for whole reports. Ends with status 1 if the library
+//! takes more than a limit.
 
 mod checks;
 mod measure;
+mod reports;
 mod work;
 
 use checks::Checks;
 use measure::{compare, Pair};
+use reports::Timed;
 use std::process::ExitCode;
 use work::Work;
 
-/// How many times the model's time the library may take.
+/// How many times the model's time the library may take for a call, and for a
+/// whole report.
 const LIMIT: f64 = 2.0;
+const REPORT_LIMIT: f64 = 1.5;
+
+/// Repetitions of each way to do a call.
+const REPETITIONS: usize = 101;
 
 /// Node and pin counts; the second are the greatest that a netlist may have.
 const SIZES: [(usize, usize); 2] = [(300, 1_200), (4_096, 16_384)];
 
 /// Steps of a certificate, about.
 const STEPS: [usize; 2] = [1_000, 10_000];
+
+/// Example circuits that are reported, with the repetitions: a report of the
+/// second takes some seconds.
+const REPORTS: [(&str, usize); 2] = [("mix30", 21), ("mix100", 3)];
 
 struct Row {
     part: &'static str,
@@ -39,13 +51,18 @@ impl Row {
 fn main() -> ExitCode {
     let mut rows: Vec<Row> = SIZES.into_iter().flat_map(measure_size).collect();
     rows.extend(STEPS.map(measure_checks));
+    let reports = REPORTS.map(|(circuit, repetitions)| Timed::new(circuit, repetitions));
     print_heading();
     rows.iter().for_each(print_row);
-    if rows.iter().any(|row| row.times.ratio() > LIMIT) {
-        println!("above the limit of {LIMIT:.2}");
+    reports::print_heading(REPORT_LIMIT);
+    reports.iter().for_each(Timed::print);
+    let calls_fit = rows.iter().all(|row| row.times.ratio() <= LIMIT);
+    let reports_fit = reports.iter().all(|row| row.times.ratio() <= REPORT_LIMIT);
+    if !(calls_fit && reports_fit) {
+        println!("above the limit of {LIMIT:.2}, or of {REPORT_LIMIT:.2} for reports");
         return ExitCode::FAILURE;
     }
-    println!("within the limit of {LIMIT:.2}");
+    println!("within the limit of {LIMIT:.2}, and of {REPORT_LIMIT:.2} for reports");
     ExitCode::SUCCESS
 }
 
@@ -57,11 +74,13 @@ fn measure_size((nodes, pins): (usize, usize)) -> [Row; 2] {
         || library.read_with_library(),
         || model.read_with_model(),
         circuits,
+        REPETITIONS,
     );
     let simulate = compare(
         || library.simulate_with_library(),
         || model.simulate_with_model(),
         circuits,
+        REPETITIONS,
     );
     assert!(library == model, "library and model left different slices");
     [("read", read), ("simulate", simulate)].map(|(part, times)| Row {
@@ -82,6 +101,7 @@ fn measure_checks(about_steps: usize) -> Row {
         || library.check_with_library(),
         || model.check_with_model(),
         circuits,
+        REPETITIONS,
     );
     assert!(library == model, "library and model left different slices");
     Row {
@@ -96,13 +116,13 @@ fn measure_checks(about_steps: usize) -> Row {
 
 fn print_heading() {
     println!("Library against Rust model; the limit of the ratio is {LIMIT:.2}.");
+    println!("Processor time of a call on random circuits, each with a fault; the median of");
     println!(
-        "Wall time of a call on random circuits, each with a fault; the median of {}",
-        measure::REPETITIONS
+        "{REPETITIONS} repetitions, in which library and model take turns. The slices are not"
     );
-    println!("repetitions, in which library and model take turns. The slices are not cleared");
-    println!("first: a step starts from what the step before left in them. Certificates are");
-    println!("of 15 frames and accepted; pins and steps are those of a circuit on average.");
+    println!("cleared first: a step starts from what the step before left in them.");
+    println!("Certificates are of 15 frames and accepted; pins and steps are those of a");
+    println!("circuit on average.");
     println!();
     println!(
         "{:<9} {:>8} {:>6} {:>6} {:>6} {:>11} {:>9} {:>6}  {:>19}",

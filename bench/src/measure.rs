@@ -1,10 +1,11 @@
-//! Times of two ways to do the same work, taken in turn.
+//! Processor times of two ways to do the same work, taken in turn.
 
-use std::time::Instant;
+use std::ffi::c_long;
 
-/// Repetitions of each way. The two take turns, so that both see the same
-/// load of the machine, and the median leaves out the turns it disturbed.
-pub const REPETITIONS: usize = 101;
+extern "C" {
+    /// The C library's clock: the process's processor time in microseconds.
+    fn clock() -> c_long;
+}
 
 /// The shortest turn, in seconds: far above what the clock can tell apart.
 const SHORTEST_TURN: f64 = 0.002;
@@ -21,16 +22,23 @@ impl Pair {
     }
 }
 
-/// Times both ways; each does `calls` calls when it is run.
-pub fn compare(mut library: impl FnMut(), mut model: impl FnMut(), calls: usize) -> Pair {
+/// Times both ways, each of which does `calls` calls when it is run. The two
+/// take turns, so that both see the same load of the machine, and the median of
+/// the repetitions leaves out the turns it disturbed.
+pub fn compare(
+    mut library: impl FnMut(),
+    mut model: impl FnMut(),
+    calls: usize,
+    repetitions: usize,
+) -> Pair {
     // Warms both up, and settles how long a turn is.
     let mut runs = 1;
     while time(&mut model, runs).min(time(&mut library, runs)) < SHORTEST_TURN {
         runs *= 2;
     }
-    let mut library_times = Vec::with_capacity(REPETITIONS);
-    let mut model_times = Vec::with_capacity(REPETITIONS);
-    for _ in 0..REPETITIONS {
+    let mut library_times = Vec::with_capacity(repetitions);
+    let mut model_times = Vec::with_capacity(repetitions);
+    for _ in 0..repetitions {
         library_times.push(time(&mut library, runs));
         model_times.push(time(&mut model, runs));
     }
@@ -42,11 +50,18 @@ pub fn compare(mut library: impl FnMut(), mut model: impl FnMut(), calls: usize)
 }
 
 fn time(work: &mut impl FnMut(), runs: usize) -> f64 {
-    let start = Instant::now();
+    let start = processor_seconds();
     for _ in 0..runs {
         work();
     }
-    start.elapsed().as_secs_f64()
+    processor_seconds() - start
+}
+
+/// Processor time, since other processes on the machine lengthen it least.
+fn processor_seconds() -> f64 {
+    // SAFETY: the function takes nothing and asks nothing of its caller.
+    let microseconds = unsafe { clock() };
+    microseconds as f64 / 1e6
 }
 
 fn median(mut times: Vec<f64>) -> f64 {

@@ -1,8 +1,10 @@
 //! One call given to the library and to the model: the same answer, and the
 //! same bytes in everything that was lent.
 
-use crate::circuits::calls;
-use crate::model;
+use crate::circuits::calls::{self, Request};
+use crate::model::certificate::{Certificate, HEAD, STEP};
+use crate::model::finder::Lent;
+use crate::model::{self, Finding};
 use crate::native::{self, FaultBytes};
 use crate::random::Random;
 
@@ -124,6 +126,84 @@ pub fn check(
         assert_cleared(&after, before, cleared, answer);
     }
     answer
+}
+
+/// Finds with both, from slices with this content: the two work slices and the
+/// certificate's. What is found is given to the checker too. Gives back the
+/// answer and the certificate, empty where none is found.
+pub fn find(
+    random: &mut Random,
+    netlist: &[u8],
+    request: Request,
+    slices: [&[u8]; 3],
+) -> (u64, Vec<u8>) {
+    let given = Guarded::new(random, netlist);
+    let lent = slices.map(|bytes| Guarded::new(random, bytes));
+    let (read, mut after) = (given.clone(), lent.clone());
+    let Request { fault, b, f } = request;
+    let answer = native::find(read.slice(), fault, b, f, lend_all(&mut after));
+    let call = || format!("{request:?} for {}", hex(netlist));
+    assert!(read == given, "the netlist was altered: {}", call());
+
+    let mut expected = lent.clone();
+    let finding = model::find(netlist, fault, b, f, lend_all(&mut expected));
+    assert_eq!(answer, native::finding_number(finding), "{}", call());
+    for (place, name) in ["first", "second", "certificate"].iter().enumerate() {
+        let (after, expected) = (&after[place], &expected[place]);
+        assert_eq!(after, expected, "{name} slice: {}", call());
+    }
+    let cleared = match finding {
+        Finding::Refused(_) => 0,
+        _ => calls::node_count(netlist) * request.frames(),
+    };
+    assert_cleared(&after[0], &lent[0], cleared, answer);
+    assert_cleared(&after[1], &lent[1], cleared, answer);
+    let certificate = certificate_found(finding, &after[2], &lent[2]);
+    if let Finding::Found { c, steps, .. } = finding {
+        assert_eq!((certificate[4], certificate[5]), (c, f), "{}", call());
+        assert_steps(netlist, &certificate, steps);
+        assert_accepted(random, netlist, &certificate);
+    }
+    (answer, certificate)
+}
+
+fn lend_all(slices: &mut [Guarded; 3]) -> Lent<'_> {
+    let [first, second, certificate] = slices;
+    Lent {
+        first: first.lend(),
+        second: second.lend(),
+        certificate: certificate.lend(),
+    }
+}
+
+/// The bytes of the certificate, none unless one is found. Those behind it are
+/// what they were.
+fn certificate_found(finding: Finding, after: &Guarded, before: &Guarded) -> Vec<u8> {
+    let length = match finding {
+        Finding::Found { length, .. } => length,
+        _ => 0,
+    };
+    let (certificate, rest) = after.slice().split_at(length);
+    assert_eq!(rest, &before.slice()[length..], "behind the certificate");
+    certificate.to_vec()
+}
+
+/// The step count is the total of the two runs, and within its bound.
+fn assert_steps(netlist: &[u8], certificate: &[u8], steps: usize) {
+    let runs = Certificate::split(certificate).map(|parts| parts.runs);
+    let [first, second] = runs.expect("the pairs are right");
+    assert_eq!(steps, first.len() + second.len());
+    assert_eq!(certificate.len(), HEAD + STEP * steps);
+    assert!(steps <= 2 * calls::work_needed(netlist, certificate));
+}
+
+/// The checker accepts the certificate with its c, in work slices of just the
+/// length they must have.
+fn assert_accepted(random: &mut Random, netlist: &[u8], certificate: &[u8]) {
+    let needed = calls::work_needed(netlist, certificate);
+    let (first, second) = (random.bytes(needed), random.bytes(needed));
+    let answer = check(random, netlist, certificate, &first, &second);
+    assert_eq!(answer, native::accepted_number(certificate[4]));
 }
 
 /// The first `cleared` lent bytes are 0, all others are what they were.

@@ -1,6 +1,7 @@
 //! The kit's library through its C interface.
 
-use crate::model::{Checked, Fault, Reading, Site, Stepped};
+use crate::model::finder::Lent;
+use crate::model::{Checked, Fault, Finding, Reading, Site, Stepped};
 
 extern "C" {
     fn leverpeach_read(netlist_ptr: *const u8, netlist_len: usize) -> u64;
@@ -27,6 +28,22 @@ extern "C" {
         first_len: usize,
         second_ptr: *mut u8,
         second_len: usize,
+    ) -> u64;
+
+    fn leverpeach_find(
+        netlist_ptr: *const u8,
+        netlist_len: usize,
+        node: u16,
+        site: u8,
+        u: u8,
+        b: u8,
+        f: u8,
+        first_ptr: *mut u8,
+        first_len: usize,
+        second_ptr: *mut u8,
+        second_len: usize,
+        certificate_ptr: *mut u8,
+        certificate_len: usize,
     ) -> u64;
 }
 
@@ -112,6 +129,29 @@ pub fn check(netlist: &[u8], certificate: &[u8], first: &mut [u8], second: &mut 
     }
 }
 
+/// The library's finder.
+pub fn find(netlist: &[u8], fault: Fault, b: u8, f: u8, lent: Lent) -> u64 {
+    // SAFETY: pointers and lengths are those of live slices; the three that the
+    // library writes are lent mutably and lie apart.
+    unsafe {
+        leverpeach_find(
+            netlist.as_ptr(),
+            netlist.len(),
+            fault.node,
+            fault.site.to_byte(),
+            fault.u,
+            b,
+            f,
+            lent.first.as_mut_ptr(),
+            lent.first.len(),
+            lent.second.as_mut_ptr(),
+            lent.second.len(),
+            lent.certificate.as_mut_ptr(),
+            lent.certificate.len(),
+        )
+    }
+}
+
 /// The number by which the C interface gives a reader's answer.
 pub fn reading_number(reading: Reading) -> u64 {
     match reading {
@@ -144,4 +184,18 @@ pub fn checked_number(checked: Checked) -> u64 {
 /// The number for a certificate accepted with this c.
 pub fn accepted_number(c: u8) -> u64 {
     (1 << 32) + u64::from(c)
+}
+
+/// The number by which the C interface gives a finder's answer.
+pub fn finding_number(finding: Finding) -> u64 {
+    match finding {
+        Finding::Found { c, length, .. } => found_number(c, length),
+        Finding::None => 0,
+        Finding::Refused(number) => number.into(),
+    }
+}
+
+/// The number for a certificate found with this c and of so many bytes.
+pub fn found_number(c: u8, length: usize) -> u64 {
+    ((u64::from(c) + 1) << 32) + length as u64
 }

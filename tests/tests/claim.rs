@@ -1,11 +1,14 @@
-//! What the library accepts is true: for every accepted certificate of a small
-//! circuit the promise is decided exactly, over all clock lists.
+//! What the library accepts and what it finds is true: for every accepted
+//! certificate of a small circuit the promise is decided exactly, over all clock
+//! lists.
 
 use leverpeach_tests::cases::run;
-use leverpeach_tests::circuits::{calls, certificates, mutants, small};
+use leverpeach_tests::circuits::calls::{self, Request};
+use leverpeach_tests::circuits::{certificates, mutants, small};
 use leverpeach_tests::claim::Claim;
 use leverpeach_tests::model::certificate::Certificate;
 use leverpeach_tests::model::checker::check_in_trap;
+use leverpeach_tests::model::finder::Lent;
 use leverpeach_tests::model::{Checked, Fault, Trap};
 use leverpeach_tests::native::{self, accepted_number};
 use leverpeach_tests::random::Random;
@@ -43,6 +46,26 @@ impl Subject {
             assert_eq!(answer, accepted_number(c));
             c
         })
+    }
+
+    /// The certificate that the library finds, if it does.
+    fn found(&self, b: u8, f: u8) -> Option<Vec<u8>> {
+        let fault = self.fault;
+        let lengths = Request { fault, b, f }.slice_lengths(self.nodes);
+        let [mut first, mut second, mut certificate] = lengths.map(|length| vec![0; length]);
+        let lent = Lent {
+            first: &mut first,
+            second: &mut second,
+            certificate: &mut certificate,
+        };
+        let answer = native::find(&self.netlist, fault, b, f, lent);
+        assert!(
+            answer == 0 || answer > 16,
+            "refused with {answer}: {self:?}"
+        );
+        // The lower half of the number is the length.
+        certificate.truncate((answer & 0xFFFF_FFFF) as usize);
+        (answer > 0).then_some(certificate)
     }
 }
 
@@ -123,6 +146,24 @@ fn what_the_library_accepts_of_altered_certificates_is_true() {
     });
     println!("{accepted} accepted");
     assert!(accepted >= 1_000, "only {accepted} accepted");
+}
+
+#[test]
+fn what_the_library_finds_is_true() {
+    let mut found = 0;
+    run("found claims", 10_000, |_, random| {
+        let subject = Subject::new(random);
+        let (b, f) = (random.below(3) as u8, random.below(3) as u8);
+        if let Some(certificate) = subject.found(b, f) {
+            let c = certificate[4];
+            assert_eq!(subject.accepted(&certificate), Some(c), "{subject:?}");
+            let mut claims = Claims::of(&subject.netlist);
+            assert!(claims.hold(&certificate, c), "{certificate:?}, {subject:?}");
+            found += 1;
+        }
+    });
+    println!("{found} found");
+    assert!(found >= 2_000, "only {found} found");
 }
 
 /// How often a checker that fell into this trap accepts a certificate whose

@@ -1,6 +1,9 @@
 //! Certificates worked by hand from the paper. The bytes and the answers are
 //! written out, and library and model must both give them.
 
+use leverpeach_tests::circuits::worked::{
+    and_twice, p1, INPUT, P1_CERTIFICATE, P7_CERTIFICATE, SELF_FED, SELF_FED_PIN,
+};
 use leverpeach_tests::circuits::{certificates, Draft};
 use leverpeach_tests::compare;
 use leverpeach_tests::model::finder::{find, Finding, Lent};
@@ -10,66 +13,6 @@ use leverpeach_tests::random::Random;
 /// Accepted with c 0, and with c 1.
 const ACCEPTED_0: u64 = 4_294_967_296;
 const ACCEPTED_1: u64 = 4_294_967_297;
-
-/// a; flip-flops b(a), c(a); AND(b, c); outputs of nodes 3 and 2.
-fn p1() -> Vec<u8> {
-    Draft::of(&[
-        (0, &[]),
-        (2, &[0]),
-        (2, &[0]),
-        (5, &[1, 2]),
-        (1, &[3]),
-        (1, &[2]),
-    ])
-    .to_bytes()
-}
-
-/// An AND of one input twice, and its output.
-fn and_twice() -> Vec<u8> {
-    Draft::of(&[(0, &[]), (5, &[0, 0]), (1, &[1])]).to_bytes()
-}
-
-/// A flip-flop fed by itself, alone.
-const SELF_FED: [u8; 11] = [1, 0, 1, 0, 2, 0, 0, 1, 0, 0, 0];
-
-/// An input alone.
-const INPUT: [u8; 9] = [1, 0, 0, 0, 0, 0, 0, 0, 0];
-
-/// Node 3, pin 1, u 1, c 1, F 0, split node 0 frame 0; five steps a branch.
-const P1_CERTIFICATE: [u8; 95] = [
-    0x03, 0x00, 0x01, 0x01, 0x01, 0x00, 0x00, 0x00, 0x00, //
-    0x19, 0x00, 0x00, 0x00, 0x23, 0x00, 0x00, 0x00, //
-    0x3C, 0x00, 0x00, 0x00, 0x23, 0x00, 0x00, 0x00, //
-    1, 0, 1, 0, 1, 0, 1, //
-    2, 0, 1, 0, 2, 0, 1, //
-    3, 0, 1, 0, 3, 0, 1, //
-    4, 0, 1, 0, 4, 0, 1, //
-    5, 0, 1, 0, 5, 0, 1, //
-    1, 0, 1, 1, 1, 0, 1, //
-    2, 0, 1, 1, 2, 0, 1, //
-    3, 0, 1, 1, 3, 0, 1, //
-    4, 0, 1, 1, 4, 0, 1, //
-    5, 0, 1, 1, 5, 0, 1, //
-];
-
-/// Node 0 itself, u 0, c 1, F 0, split node 0 frame 0. Below frame 1 the node
-/// is held at 0: branch 0 has one step, branch 1 is a contradiction.
-const P7_CERTIFICATE: [u8; 32] = [
-    0, 0, 255, 0, 1, 0, 0, 0, 0, //
-    25, 0, 0, 0, 7, 0, 0, 0, //
-    32, 0, 0, 0, 0, 0, 0, 0, //
-    0, 0, 1, 0, 0, 0, 1, //
-];
-
-/// Pin 0 of node 0, u 0, c 1, F 0, split node 0 frame 0. The pin reads 0 below
-/// frame 1, so both branches conclude 0 at frame 1.
-const SELF_FED_PIN: [u8; 39] = [
-    0, 0, 0, 0, 1, 0, 0, 0, 0, //
-    25, 0, 0, 0, 7, 0, 0, 0, //
-    32, 0, 0, 0, 7, 0, 0, 0, //
-    0, 0, 1, 0, 0, 0, 1, //
-    0, 0, 1, 0, 0, 0, 1, //
-];
 
 /// Checks in work slices of these lengths, full of 170.
 fn check_in(netlist: &[u8], certificate: &[u8], lengths: [usize; 2]) -> u64 {

@@ -1,7 +1,9 @@
-//! Faults and slices for calls of the simulator and the checker.
+//! Faults, windows and slices for calls of the simulator, the checker and the
+//! finder.
 
 use super::Draft;
-use crate::model::kind;
+use crate::model::certificate::{HEAD, STEP};
+use crate::model::{kind, Fault};
 use crate::native::FaultBytes;
 use crate::random::Random;
 
@@ -103,6 +105,56 @@ pub fn work_slices(random: &mut Random, needed: usize) -> [Vec<u8>; 2] {
         let length = match random.below(4) {
             _ if short == slice => needed - 1,
             _ if short == slice + 2 => random.below(needed),
+            0 | 1 => needed,
+            2 => needed + 1,
+            _ => needed + random.below(50),
+        };
+        random.bytes(length)
+    })
+}
+
+/// What the finder is asked for in a netlist.
+#[derive(Clone, Copy, Debug)]
+pub struct Request {
+    pub fault: Fault,
+    pub b: u8,
+    pub f: u8,
+}
+
+impl Request {
+    /// How many frames the widest window has.
+    pub fn frames(&self) -> usize {
+        usize::from(self.b) + usize::from(self.f) + 1
+    }
+
+    /// The bytes that the three slices must have, in their order: two work
+    /// slices and the certificate's.
+    pub fn slice_lengths(&self, nodes: usize) -> [usize; 3] {
+        let places = nodes * self.frames();
+        [places, places, HEAD + 2 * STEP * places]
+    }
+}
+
+/// B and F: mostly small, rarely such that the window has the most frames, and
+/// rarely too large.
+pub fn bounds(random: &mut Random) -> (u8, u8) {
+    match random.below(200) {
+        0 => random.pick(&[(14, 0), (0, 14), (7, 7), (1, 13), (13, 1)]),
+        1 => random.pick(&[(15, 0), (0, 15), (14, 1), (255, 0), (0, 255), (255, 255)]),
+        2..=40 => (random.below(6) as u8, random.below(4) as u8),
+        _ => (random.below(3) as u8, random.below(3) as u8),
+    }
+}
+
+/// The finder's slices with anything in them, for these lengths: mostly long
+/// enough, rarely one of them a byte too short or empty.
+pub fn finder_slices(random: &mut Random, needed: [usize; 3]) -> [Vec<u8>; 3] {
+    let short = random.below(90);
+    [0, 1, 2].map(|slice| {
+        let needed = needed[slice];
+        let length = match random.below(4) {
+            _ if short == slice => needed - 1,
+            _ if short == slice + 3 => random.below(needed),
             0 | 1 => needed,
             2 => needed + 1,
             _ => needed + random.below(50),

@@ -1,6 +1,6 @@
-//! Makers of netlists, of simulator calls and of certificates: sound at random,
-//! sound with a plan, damaged on purpose, and bytes that only look like a
-//! netlist.
+//! Makers of netlists, of certificates and of calls: sound at random, sound with
+//! a plan, damaged on purpose, and bytes that only look like a netlist; and the
+//! paper's own circuits.
 
 pub mod calls;
 pub mod certificates;
@@ -11,5 +11,6 @@ pub mod raw;
 pub mod small;
 pub mod sound;
 pub mod structured;
+pub mod worked;
 
 pub use draft::{Draft, Node};

@@ -1,5 +1,6 @@
-//! The paper in Rust, by subject. Nothing here allocates: the functions work
-//! on the lent bytes, so that they also serve as a yardstick for speed.
+//! The paper in Rust, by subject. Only the text of the report allocates: all
+//! else works on the lent bytes, so that it also serves as a yardstick for
+//! speed.
 
 pub mod certificate;
 pub mod checker;
@@ -8,6 +9,7 @@ pub mod fault;
 pub mod finder;
 pub mod kind;
 pub mod netlist;
+pub mod report;
 pub mod trace;
 pub mod trap;
 pub mod window;
@@ -17,4 +19,5 @@ pub use clock::{simulate, Stepped};
 pub use fault::{Fault, Site};
 pub use finder::{find, Finding};
 pub use netlist::{read, Reading};
+pub use report::report;
 pub use trap::Trap;

@@ -1,0 +1,259 @@
+//! The report program against the model's text, byte for byte.
+
+use leverpeach_tests::cases::run;
+use leverpeach_tests::circuits::{damaged, raw, small, structured, worked, Draft};
+use leverpeach_tests::model::{self, kind};
+use leverpeach_tests::random::Random;
+use std::fs;
+use std::io::{ErrorKind, Write};
+use std::path::{Path, PathBuf};
+use std::process::{Command, Stdio};
+use std::thread;
+use std::time::Duration;
+
+fn repository() -> PathBuf {
+    Path::new(env!("CARGO_MANIFEST_DIR")).join("..")
+}
+
+/// What the program prints when its input comes in these pieces, one after the
+/// other.
+fn printed_for_pieces(pieces: &[&[u8]]) -> String {
+    let path = repository().join("target/bin/report");
+    assert!(
+        path.is_file(),
+        "{} is missing: build it with scripts/build report",
+        path.display()
+    );
+    let mut program = Command::new(path)
+        .stdin(Stdio::piped())
+        .stdout(Stdio::piped())
+        .stderr(Stdio::piped())
+        .spawn()
+        .expect("the program starts");
+    let mut input = program.stdin.take().expect("the input is a pipe");
+    // Beside the program, since neither may wait for the other's pipe.
+    let output = thread::scope(|scope| {
+        scope.spawn(move || write_pieces(&mut input, pieces));
+        program.wait_with_output().expect("the program ends")
+    });
+    assert!(output.status.success(), "{}", output.status);
+    assert_eq!(String::from_utf8_lossy(&output.stderr), "");
+    String::from_utf8(output.stdout).expect("the report is text")
+}
+
+fn write_pieces(input: &mut impl Write, pieces: &[&[u8]]) {
+    for (place, piece) in pieces.iter().enumerate() {
+        if place > 0 {
+            // Long enough for the program to have read what came before.
+            thread::sleep(Duration::from_millis(20));
+        }
+        match input.write_all(piece) {
+            // What is longer than the buffer need not be read to its end.
+            Err(error) if error.kind() == ErrorKind::BrokenPipe => return,
+            written => written.expect("the program takes its input"),
+        }
+    }
+}
+
+fn printed(input: &[u8]) -> String {
+    printed_for_pieces(&[input])
+}
+
+fn input(b: u8, f: u8, netlist: &[u8]) -> Vec<u8> {
+    [&[b, f], netlist].concat()
+}
+
+/// Runs program and model on the input; gives back the text.
+fn compare(input: &[u8]) -> String {
+    let text = printed(input);
+    assert_eq!(text, model::report(input), "for {input:?}");
+    text
+}
+
+fn last_line(text: &str) -> &str {
+    text.lines().last().expect("there is a line")
+}
+
+#[test]
+fn the_paper_s_example() {
+    let bytes = [
+        0x00, 0x00, 0x03, 0x00, 0x03, 0x00, 0x00, 0x00, 0x00, 0x00, 0x00, 0x05, 0x00, 0x00, 0x02,
+        0x00, 0x01, 0x02, 0x00, 0x01, 0x00, 0x00, 0x00, 0x00, 0x00, 0x01, 0x00,
+    ];
+    assert_eq!(compare(&bytes), "1 0 1 0 0 0\n1 1 1 0 0 0\n2 of 12\n");
+}
+
+#[test]
+fn pins_come_before_the_node_itself() {
+    let text = "0 0 0 1 0 0\n0 0 1 1 0 0\n0 255 0 1 0 0\n0 255 1 1 0 0\n4 of 4\n";
+    assert_eq!(compare(&input(1, 0, &worked::SELF_FED)), text);
+    assert_eq!(compare(&input(0, 0, &worked::SELF_FED)), "0 of 4\n");
+}
+
+#[test]
+fn examples() {
+    for (name, b, f, last) in [
+        ("and2.net", 0, 0, "2 of 12"),
+        ("p1.net", 1, 0, "3 of 24"),
+        ("ffself.net", 1, 0, "4 of 4"),
+        ("s27.net", 3, 1, "0 of 80"),
+        ("mix30.net", 2, 1, "12 of 140"),
+        ("random30.net", 2, 1, "96 of 166"),
+    ] {
+        let path = repository().join("examples").join(name);
+        let netlist = fs::read(path).expect("the example is there");
+        assert_eq!(last_line(&compare(&input(b, f, &netlist))), last, "{name}");
+    }
+}
+
+#[test]
+fn small_circuits() {
+    let (mut marked, mut unmarked) = (0, 0);
+    run("small reports", 300, |_, random| {
+        let draft = small::any(random);
+        let (b, f) = (random.below(4) as u8, random.below(3) as u8);
+        let text = compare(&input(b, f, &draft.to_bytes()));
+        let faults = 2 * (draft.nodes.len() + draft.pin_count());
+        let marks = text.lines().count() - 1;
+        assert_eq!(last_line(&text), format!("{marks} of {faults}"));
+        marked += marks;
+        unmarked += faults - marks;
+    });
+    println!("{marked} faults marked, {unmarked} not");
+    assert!(marked >= 1_000 && unmarked >= 1_000);
+}
+
+#[test]
+fn planned_circuits() {
+    for draft in structured::all(7) {
+        compare(&input(1, 1, &draft.to_bytes()));
+    }
+}
+
+#[test]
+fn input_too_short_for_b_and_f_or_for_a_netlist() {
+    for length in 0..6 {
+        assert_eq!(compare(&[0; 6][..length]), "refused 1\n");
+    }
+    assert_eq!(compare(&[0; 6]), "refused 2\n");
+}
+
+#[test]
+fn netlists_that_are_not_sound() {
+    run("unsound reports", 140, |case, random| {
+        let number = 1 + case % 7;
+        let nodes = random.between(1, 12);
+        let netlist = damaged::with(random, nodes, &[number as u8]);
+        // Too wide a window is no reason beside an unsound netlist.
+        let (b, f) = random.pick(&[(0, 0), (2, 1), (14, 1), (255, 255)]);
+        let text = compare(&input(b, f, &netlist));
+        assert_eq!(text, format!("refused {number}\n"));
+    });
+}
+
+#[test]
+fn windows_that_are_too_wide() {
+    let netlist = worked::and_twice();
+    for (b, f) in [(14, 1), (15, 0), (0, 15), (255, 0), (0, 255), (255, 255)] {
+        assert_eq!(compare(&input(b, f, &netlist)), "refused 10\n");
+    }
+    for (b, f) in [(14, 0), (0, 14), (7, 7)] {
+        assert_eq!(last_line(&compare(&input(b, f, &netlist))), "2 of 12");
+    }
+}
+
+/// Inputs alone: every fault is found at the first split.
+fn inputs(nodes: usize) -> Vec<u8> {
+    let mut draft = Draft::default();
+    for _ in 0..nodes {
+        draft.push(kind::INPUT, &[]);
+    }
+    draft.to_bytes()
+}
+
+#[test]
+fn the_certificate_s_buffer_limits_nodes_and_frames() {
+    // Nodes times frames is 4,680, just too many.
+    for (b, f, nodes) in [(1, 0, 2_340), (0, 1, 2_340), (0, 2, 1_560), (14, 0, 312)] {
+        assert_eq!(compare(&input(b, f, &inputs(nodes))), "refused 12\n");
+    }
+    assert_eq!(compare(&input(7, 7, &inputs(4_096))), "refused 12\n");
+    // The most nodes that are not too many for so many frames.
+    for (b, f, nodes) in [(1, 0, 2_339), (14, 0, 311)] {
+        let text = compare(&input(b, f, &inputs(nodes)));
+        let faults = 2 * nodes;
+        assert_eq!(last_line(&text), format!("{faults} of {faults}"));
+    }
+    let wide = input(0, 15, &inputs(312));
+    assert_eq!(compare(&wide), "refused 10\n");
+}
+
+#[test]
+fn more_faults_than_four_digits_count() {
+    // Without an output every fault is found at once.
+    let mut draft = Draft::default();
+    for _ in 0..3_000 {
+        draft.push(kind::INPUT, &[]);
+    }
+    for _ in 0..1_001 {
+        draft.push(kind::BUFFER, &[1]);
+    }
+    let text = compare(&input(0, 0, &draft.to_bytes()));
+    assert_eq!(last_line(&text), "10004 of 10004");
+}
+
+#[test]
+fn input_longer_than_the_buffer() {
+    let mut random = Random::new(8);
+    let netlist = worked::and_twice();
+    for length in [65_535, 65_536, 65_537, 200_000] {
+        let mut sound_at_first = input(0, 0, &netlist);
+        let more = length - sound_at_first.len();
+        sound_at_first.extend(random.bytes(more));
+        assert_eq!(compare(&sound_at_first), "refused 3\n");
+        assert_eq!(compare(&vec![0; length]), "refused 2\n");
+        assert_eq!(compare(&vec![255; length]), "refused 2\n");
+    }
+    // The longest sound netlist is refused for its frames only, and with bytes
+    // behind it for its length.
+    let longest = longest_netlist();
+    assert_eq!(longest.len(), 53_252);
+    assert_eq!(compare(&input(1, 0, &longest)), "refused 12\n");
+    let mut longer = input(1, 0, &longest);
+    longer.resize(70_000, 0);
+    assert_eq!(compare(&longer), "refused 3\n");
+}
+
+/// As many nodes and pins as a netlist may have.
+fn longest_netlist() -> Vec<u8> {
+    let mut draft = Draft::default();
+    for _ in 0..2_048 {
+        draft.push(kind::INPUT, &[]);
+    }
+    for _ in 0..2_048 {
+        draft.push(kind::NOR, &[0; 8]);
+    }
+    draft.to_bytes()
+}
+
+#[test]
+fn input_that_comes_in_pieces() {
+    let netlist = worked::and_twice();
+    let whole = input(0, 0, &netlist);
+    let expected = model::report(&whole);
+    for cut in [1, 2, 3, 4, 20, whole.len() - 1] {
+        let (head, tail) = whole.split_at(cut);
+        assert_eq!(printed_for_pieces(&[head, tail]), expected);
+    }
+    let bytes: Vec<&[u8]> = whole.chunks(5).collect();
+    assert_eq!(printed_for_pieces(&bytes), expected);
+}
+
+#[test]
+fn bytes_without_a_plan() {
+    run("noise", 100, |_, random| {
+        let length = random.below(60);
+        compare(&random.bytes(length));
+        compare(&input(1, 0, &raw::shaped(random)));
+    });
+}
