@@ -3,7 +3,7 @@ use mathlib.Core.Bool.{Bool, false, true}
 use mathlib.Core.List.{List}
 use mathlib.Core.Option.{Option, none, some}
 use mathlib.Core.Path.{_≡_, ap, refl, sym}
-use Prim.Native.Nat.{_+_, _-_, _<_, ℕ}
+use Prim.Native.Nat.{_*_, _+_, _-_, _<_, ℕ}
 use native.Mathlib.Omega.{arith}
 use lib.Dec.{ltb}
 use lib.ListN.{length}
@@ -12,7 +12,7 @@ use Rattle.circuit.proofs.ListLaws.{getD-build, length-build}
 use Rattle.circuit.proofs.RefusalLaws.{FirstFails, Passed, refusal-at, refusal-by}
 use Rattle.circuit.specs.Answer.{Answer, refused}
 use Rattle.circuit.specs.Lists.{at}
-use Rattle.circuit.specs.Netlist.{lengthOf, netOf, nodeCount, pinCount, pinsOf, readerTests, reading, sound, sourceOf}
+use Rattle.circuit.specs.Netlist.{lengthOf, netOf, nodeCount, offsetOf, pinCount, pinsOf, readerTests, reading, sound, sourceOf, u16At}
 
 abbrev answerOf : List ℕ → Option ℕ → Answer
 answerOf bs r = elim r [ none ↦ sound (nodeCount bs) (pinCount bs) | some k ↦ refused k ]
@@ -43,3 +43,8 @@ before-last i n h = go (ltb (i + 1) n) refl
     go : (b : Bool) → ltb (i + 1) n ≡ b → ltb i (n - 1) ≡ b
     go true e = lt-ltb i (n - 1) (omega (arith, ltb-true (i + 1) n e))
     go false e = le-ltb i (n - 1) (omega (arith, ltb-false (i + 1) n e))
+
+-- where the source of a pin stands, counted from the place of its node's pins
+pub source-place : (bs : List ℕ) (n k p : ℕ) → p ≡ 4 + 5 * nodeCount bs + 2 * offsetOf bs n → u16At bs (p + 2 * k) ≡ sourceOf bs n k
+unfolding sourceOf
+source-place bs n k p h = let e : p + 2 * k ≡ 4 + 5 * nodeCount bs + 2 * (offsetOf bs n + k) = omega arith in rw e

@@ -1,11 +1,11 @@
 // One clock step of a circuit, good or faulty.
 ghost use mathlib.Core.Path.{_≡_};
-ghost use Prim.Native.Nat.{_<_};
+ghost use Prim.Native.Nat.{_*_, _+_, _<_};
 ghost use lib.Dec.{eqb};
 ghost use lib.ListN.{length, set};
 ghost use mathlib.Core.Bool.{cond};
 ghost use Rattle.circuit.specs.Lists.{at, every};
-ghost use Rattle.circuit.specs.Netlist.{kindOf, netOf, pinCount, reading, sound, sourceOf};
+ghost use Rattle.circuit.specs.Netlist.{kindOf, netOf, nodeCount, offsetOf, pinCount, reading, sound, sourceOf};
 ghost use Rattle.circuit.specs.Kind.{gate};
 ghost use Rattle.circuit.specs.Value.{stuckOr};
 ghost use Rattle.circuit.specs.Fault.{linesIn};
@@ -28,9 +28,10 @@ use crate::kind::unit_of;
 use crate::netlist::Reading;
 use crate::netlist::kind_of;
 use crate::netlist::length_of;
+use crate::netlist::pins_place;
 use crate::netlist::read;
 use crate::netlist::refusal_number;
-use crate::netlist::source_of;
+use crate::netlist::source_at;
 
 // The simulator's answer: the clock step is done, or the refusal's number.
 pub enum Stepped {
@@ -38,11 +39,12 @@ pub enum Stepped {
     Refused(u8),
 }
 
-// What a node's pin reads.
-fn pin_value(netlist: &[u8], circuit: Circuit, seen: &[u8], node: u16, pin: u16) -> u8
+// What a node's pin reads, where the node's pins stand at the place.
+fn pin_value(netlist: &[u8], place: u32, circuit: Circuit, seen: &[u8], node: u16, pin: u16) -> u8
+    requires { ⌜ place ≡ 4 + 5 * nodeCount (now netlist) + 2 * offsetOf (now netlist) node ⌝ }
     ensures { λ r. ⌜ r ≡ stuckOr (linesIn circuit .pin node pin) (at (now (seen .entry)) (sourceOf (now (netlist .entry)) node pin)) ⌝ }
 {
-    let source = source_of(netlist, node, pin);
+    let source = source_at(netlist, place, pin);
     let value = byte_at(seen, source as usize);
     stuck_or(stuck_pin(circuit, node, pin), value)
 }
@@ -50,6 +52,7 @@ fn pin_value(netlist: &[u8], circuit: Circuit, seen: &[u8], node: u16, pin: u16)
 // What a pin reads, where the assumed pin is taken to read the assumption.
 fn assumed_value(
     netlist: &[u8],
+    place: u32,
     circuit: Circuit,
     seen: &[u8],
     node: u16,
@@ -57,12 +60,13 @@ fn assumed_value(
     assumed: u16,
     assumption: u8,
 ) -> u8
+    requires { ⌜ place ≡ 4 + 5 * nodeCount (now netlist) + 2 * offsetOf (now netlist) node ⌝ }
     ensures { λ r. ⌜ r ≡ cond (eqb pin assumed) assumption (stuckOr (linesIn circuit .pin node pin) (at (now (seen .entry)) (sourceOf (now (netlist .entry)) node pin))) ⌝ }
 {
     if pin == assumed {
         return assumption;
     }
-    pin_value(netlist, circuit, seen, node, pin)
+    pin_value(netlist, place, circuit, seen, node, pin)
 }
 
 // What a node makes of its pins' values, where the assumed pin is taken to read the assumption.
@@ -79,11 +83,21 @@ pub fn gate_assuming(
 {
     let rule = rule_of(kind_of(netlist, node));
     let gate = rule.gate;
+    let place = pins_place(netlist, node);
     let mut value = unit_of(gate);
     let mut pin = length_of(netlist, node);
     while 0 < pin {
         pin -= 1;
-        let read = assumed_value(netlist, circuit, seen, node, pin, assumed, assumption);
+        let read = assumed_value(
+            netlist,
+            place,
+            circuit,
+            seen,
+            node,
+            pin,
+            assumed,
+            assumption,
+        );
         value = join_of(gate, read, value);
     }
     inverted_if(rule.inverted, value)
@@ -131,7 +145,7 @@ fn latched_value(netlist: &[u8], n: u16, circuit: Circuit, seen: &[u8], node: u1
     ensures { λ r. ⌜ r ≡ latchedBy (netOf (now (netlist .entry))) (linesIn circuit) (at (now (seen .entry))) node ⌝ }
 {
     if kind_of(netlist, node) == FLIP_FLOP {
-        pin_value(netlist, circuit, seen, node, 0)
+        pin_value(netlist, pins_place(netlist, node), circuit, seen, node, 0)
     } else {
         0
     }

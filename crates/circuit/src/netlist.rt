@@ -3,10 +3,10 @@ ghost use mathlib.Core.Path.{_≡_};
 ghost use mathlib.Core.Bool.{_&&_, cond};
 ghost use Rattle.circuit.specs.Kind.{isFlipFlop};
 ghost use lib.Dec.{eqb};
-ghost use Prim.Native.Nat.{_<_};
+ghost use Prim.Native.Nat.{_*_, _+_, _<_};
 ghost use Rattle.circuit.specs.Answer.{numberOf};
 ghost use Rattle.circuit.specs.Lists.{every};
-ghost use Rattle.circuit.specs.Netlist.{nodeCount, pinCount, kindOf, offsetOf, lengthOf, sourceOf, pairStart, sizesAllowed, kindKnown, pairJoined, countFits, sourceAllowed, sourcesAllowed, reading, readingSays};
+ghost use Rattle.circuit.specs.Netlist.{nodeCount, pinCount, kindOf, offsetOf, lengthOf, sourceOf, pairStart, sizesAllowed, kindKnown, pairJoined, countFits, sourceAllowed, sourcesAllowed, reading, readingSays, u16At};
 use crate::bytes::byte_at;
 use crate::bytes::u16_at;
 use crate::kind::FLIP_FLOP;
@@ -60,13 +60,25 @@ pub fn length_of(netlist: &[u8], node: u16) -> u16
     u16_at(netlist, 7 + 5 * (node as usize))
 }
 
+// Where the sources of a node's pins stand, two bytes each.
+pub fn pins_place(netlist: &[u8], node: u16) -> u32
+    ensures { λ r. ⌜ r ≡ 4 + 5 * nodeCount (now (netlist .entry)) + 2 * offsetOf (now (netlist .entry)) node ⌝ }
+{
+    4 + 5 * (node_count(netlist) as u32) + 2 * (offset_of(netlist, node) as u32)
+}
+
+// The source of a pin of a node whose pins stand at the place.
+pub fn source_at(netlist: &[u8], place: u32, pin: u16) -> u16
+    ensures { λ r. ⌜ r ≡ u16At (now (netlist .entry)) (place + 2 * pin) ⌝ }
+{
+    u16_at(netlist, place as usize + 2 * (pin as usize))
+}
+
 // The source of a node's pin.
 pub fn source_of(netlist: &[u8], node: u16, pin: u16) -> u16
     ensures { λ r. ⌜ r ≡ sourceOf (now (netlist .entry)) node pin ⌝ }
 {
-    let pins = 4 + 5 * (node_count(netlist) as usize);
-    let place = offset_of(netlist, node) as usize + pin as usize;
-    u16_at(netlist, pins + 2 * place)
+    source_at(netlist, pins_place(netlist, node), pin)
 }
 
 fn sizes_allowed(n: u16, p: u16) -> bool

@@ -6,15 +6,15 @@ use Rattle.circuit.proofs.clock.assumed_value.Reads as reads
 use Rattle.circuit.proofs.clock.assumed_value.Lts as lts
 use Rattle.circuit.proofs.clock.pin_value.Reads as pin-value-reads
 
--- src/clock.rt:63:9
+-- src/clock.rt:67:9
 returns : tie.Need-returns
 returns c = rw (eq-eqb _ _ (c .if1 .taken))
 
--- src/clock.rt:65:5
+-- src/clock.rt:69:5
 pin-value-requires : tie.Need-pin-value-requires
 pin-value-requires c κs = search needs
 
--- src/clock.rt:51:1
+-- src/clock.rt:53:1
 returns-2 : tie.Need-returns-2
 returns-2 c = rw (ne-eqb _ _ (c .before .if1 .left), c .pin-value .ensures)
 

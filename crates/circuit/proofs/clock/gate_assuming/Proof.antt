@@ -21,64 +21,69 @@ use Rattle.circuit.proofs.kind.rule_of.Reads as rule-of-reads
 use Rattle.circuit.proofs.kind.unit_of.Reads as unit-of-reads
 use Rattle.circuit.proofs.netlist.kind_of.Reads as kind-of-reads
 use Rattle.circuit.proofs.netlist.length_of.Reads as length-of-reads
+use Rattle.circuit.proofs.netlist.pins_place.Reads as pins-place-reads
 
 abbrev Inv-loop : tie.InvT-loop
-Inv-loop netlist circuit seen node assumed assumption rule gate value₀ pin₀ value pin = (pin ≤ lengthOf netlist node) × (value ≡ functionOf gate (drop pin (set (pinValues (netOf netlist) (linesIn circuit) (at seen) node) assumed assumption)))
+Inv-loop netlist circuit seen node assumed assumption rule gate place value₀ pin₀ value pin = (pin ≤ lengthOf netlist node) × (value ≡ functionOf gate (drop pin (set (pinValues (netOf netlist) (linesIn circuit) (at seen) node) assumed assumption)))
 
 abbrev μ-loop : tie.MeasureT-loop
-μ-loop netlist circuit seen node assumed assumption rule gate value₀ pin₀ value pin = pin
+μ-loop netlist circuit seen node assumed assumption rule gate place value₀ pin₀ value pin = pin
 
--- src/clock.rt:73:24
+-- src/clock.rt:84:24
 kind-of-requires : tie.Need-kind-of-requires Inv-loop μ-loop
 kind-of-requires c κs = search needs
 
--- src/clock.rt:73:9
+-- src/clock.rt:84:9
 rule-of-requires : tie.Need-rule-of-requires Inv-loop μ-loop
 rule-of-requires c κs = search needs
 
--- src/clock.rt:75:9
+-- src/clock.rt:86:9
+pins-place-requires : tie.Need-pins-place-requires Inv-loop μ-loop
+pins-place-requires c κs = search needs
+
+-- src/clock.rt:87:9
 unit-of-requires : tie.Need-unit-of-requires Inv-loop μ-loop
 unit-of-requires c κs = search needs
 
--- src/clock.rt:76:9
+-- src/clock.rt:88:9
 length-of-requires : tie.Need-length-of-requires Inv-loop μ-loop
 length-of-requires c κs = search needs
 
--- src/clock.rt:77:5
+-- src/clock.rt:89:5
 loop-holds : tie.Need-loop-holds Inv-loop μ-loop
-loop-holds c = let a = c .before .before .before .before .before .before .args in
+loop-holds c = let a = c .before .before .before .before .before .before .before .args in
     let s = now (a .netlist) in
     let l = linesIn (a .circuit) in
     let v = at (now (a .seen)) in
     let vs = set (pinValues (netOf s) l v (a .node)) (a .assumed) (a .assumption) in
     let len = length-assumed s l v (a .node) (a .assumed) (a .assumption) in
-    (omega (arith, c .length-of .ensures), rw (c .before .unit-of .ensures, c .length-of .ensures, ← len) (function-none (c .before .before .rule-of .result .gate) vs))
+    (omega (arith, c .length-of .ensures), rw (c .before .unit-of .ensures, c .length-of .ensures, ← len) (function-none (c .before .before .before .rule-of .result .gate) vs))
 
--- src/clock.rt:78:9
+-- src/clock.rt:90:9
 sub-pin : tie.Need-sub-pin Inv-loop μ-loop
 sub-pin c = search needs
 
--- src/clock.rt:79:13
+-- src/clock.rt:91:13
 assumed-value-requires : tie.Need-assumed-value-requires Inv-loop μ-loop
 assumed-value-requires c κs = search needs
 
--- src/clock.rt:80:9
+-- src/clock.rt:92:9
 join-of-requires : tie.Need-join-of-requires Inv-loop μ-loop
 join-of-requires c κs = search needs
 
--- src/clock.rt:77:5
+-- src/clock.rt:89:5
 loop-less : tie.Need-loop-less Inv-loop μ-loop
 loop-less c = omega arith
 
--- src/clock.rt:77:5
+-- src/clock.rt:89:5
 loop-again : tie.Need-loop-again Inv-loop μ-loop
-loop-again c = let a = c .before .before .before .before .before .before .before .before .before .before .args in
+loop-again c = let a = c .before .before .before .before .before .before .before .before .before .before .before .args in
     let s = now (a .netlist) in
     let l = linesIn (a .circuit) in
     let v = at (now (a .seen)) in
     let vs = set (pinValues (netOf s) l v (a .node)) (a .assumed) (a .assumption) in
     let len = length-assumed s l v (a .node) (a .assumed) (a .assumption) in
-    let g = c .before .before .before .before .before .before .rule-of .result .gate in
+    let g = c .before .before .before .before .before .before .before .rule-of .result .gate in
     let i = c .before .before .before .loop in
     let h : i .pin - 1 < lengthOf s (a .node) = omega (arith, i .inv .0, c .before .before .loop-test .taken) in (
       omega (arith, h),
@@ -86,16 +91,16 @@ loop-again c = let a = c .before .before .before .before .before .before .before
           (function-more g vs (i .pin) (c .before .before .loop-test .taken) (omega (arith, len, i .inv .0))),
     )
 
--- src/clock.rt:82:5
+-- src/clock.rt:94:5
 inverted-if-requires : tie.Need-inverted-if-requires Inv-loop μ-loop
 inverted-if-requires c κs = search needs
 
--- src/clock.rt:70:1
+-- src/clock.rt:74:1
 returns : tie.Need-returns Inv-loop μ-loop
 unfolding gate
 returns c = let i = c .before .before .loop in
     let z : i .pin ≡ 0 = omega arith in
-    rw (c .inverted-if .ensures, i .inv .1, z, c .before .before .before .before .before .rule-of .ensures, c .before .before .before .before .before .before .kind-of .ensures)
+    rw (c .inverted-if .ensures, i .inv .1, z, c .before .before .before .before .before .before .rule-of .ensures, c .before .before .before .before .before .before .before .kind-of .ensures)
 
 pub gate-assuming-spec : {M : Type 1} → statement M
 gate-assuming-spec =
@@ -105,6 +110,7 @@ gate-assuming-spec =
     μ-loop
     kind-of-requires
     rule-of-requires
+    pins-place-requires
     unit-of-requires
     length-of-requires
     loop-holds

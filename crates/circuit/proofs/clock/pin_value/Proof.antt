@@ -1,3 +1,5 @@
+use denote.Ref.{now}
+use Rattle.circuit.proofs.NetlistLaws.{source-place}
 use borrow.Author.Needs.{needs}
 use Rattle.circuit.proofs.clock.pin_value.Statement.{statement}
 use Rattle.circuit.proofs.clock.pin_value.Tie as tie
@@ -6,37 +8,38 @@ use Rattle.circuit.proofs.clock.pin_value.Lts as lts
 use Rattle.circuit.proofs.bytes.byte_at.Reads as byte-at-reads
 use Rattle.circuit.proofs.fault.stuck_or.Reads as stuck-or-reads
 use Rattle.circuit.proofs.fault.stuck_pin.Reads as stuck-pin-reads
-use Rattle.circuit.proofs.netlist.source_of.Reads as source-of-reads
+use Rattle.circuit.proofs.netlist.source_at.Reads as source-at-reads
 
--- src/clock.rt:42:9
-source-of-requires : tie.Need-source-of-requires
-source-of-requires c κs = search needs
+-- src/clock.rt:47:9
+source-at-requires : tie.Need-source-at-requires
+source-at-requires c κs = search needs
 
--- src/clock.rt:43:31
+-- src/clock.rt:48:31
 cast-byte-at : tie.Need-cast-byte-at
 cast-byte-at c = search needs
 
--- src/clock.rt:43:9
+-- src/clock.rt:48:9
 byte-at-requires : tie.Need-byte-at-requires
 byte-at-requires c κs = search needs
 
--- src/clock.rt:44:14
+-- src/clock.rt:49:14
 stuck-pin-requires : tie.Need-stuck-pin-requires
 stuck-pin-requires c κs = search needs
 
--- src/clock.rt:44:5
+-- src/clock.rt:49:5
 stuck-or-requires : tie.Need-stuck-or-requires
 stuck-or-requires c κs = search needs
 
--- src/clock.rt:39:1
+-- src/clock.rt:43:1
 returns : tie.Need-returns
-returns c = rw (c .stuck-or .ensures, c .before .stuck-pin .ensures, c .before .before .byte-at .ensures, c .before .before .before .source-of .ensures)
+returns c = let a = c .before .before .before .before .before .before .args in
+    rw (c .stuck-or .ensures, c .before .stuck-pin .ensures, c .before .before .byte-at .ensures, c .before .before .before .source-at .ensures, source-place (now (a .netlist)) (a .node) (a .pin) (a .place) (c .before .before .before .before .before .before .pre))
 
 pub pin-value-spec : {M : Type 1} → statement M
 pin-value-spec =
     tie.close
     (tie.spec
-    source-of-requires
+    source-at-requires
     cast-byte-at
     byte-at-requires
     stuck-pin-requires
