@@ -4,7 +4,7 @@ use mathlib.Core.List.{List, [], _∷_}
 use Prim.Native.Nat.{_*_, _+_, ℕ}
 use lib.Dec.{eqb}
 use Rattle.circuit.specs.Answer.{Answer, Outcome, answered, refused}
-use Rattle.circuit.specs.Lists.{at}
+use Rattle.values.specs.Lists.{at}
 use Rattle.circuit.specs.Fault.{siteOf}
 use Rattle.circuit.specs.declared.fault.Circuit.{Circuit}
 use Rattle.circuit.specs.declared.fault.Fault.{Fault}

@@ -11,15 +11,15 @@ use Rattle.checker.specs.Checker.{follows, sameStep, stepWithin}
 use Rattle.checker.specs.Trace.{effectDies, gateMark, latchedMark, latchedMarks, latchedUntouched, mark, marksList, nodeMark, outputUntouched, pinMark, siteMark, someMark, untouchedValue}
 use Rattle.checker.specs.Window.{conclusion, inForce, outputConclusion, pinConclusion, pinFrame}
 use Rattle.checker.specs.declared.step.Step.{Step}
-use Rattle.circuit.proofs.BoolLaws.{and-left, and-right}
+use Rattle.values.proofs.BoolLaws.{and-left, and-right}
 use Rattle.circuit.proofs.ClockLaws.{Ordered, pinValues-agree}
-use Rattle.circuit.proofs.ListLaws.{Below, any-same, build-agree, build-same, getD-build, indexed-agree}
+use Rattle.values.proofs.ListLaws.{Below, any-same, build-agree, build-same, getD-build, indexed-agree}
 use Rattle.circuit.specs.Clock.{pinValues}
 use Rattle.circuit.specs.Fault.{StuckLines, noneStuck}
-use Rattle.circuit.specs.Kind.{controlling, gate, isFlipFlop, isGiven, ruleOf}
-use Rattle.circuit.specs.Lists.{any, at, build, every, indexed}
+use Rattle.values.specs.Kind.{controlling, gate, isFlipFlop, isGiven, ruleOf}
+use Rattle.values.specs.Lists.{any, at, build, every, indexed}
 use Rattle.circuit.specs.Netlist.{Net}
-use Rattle.circuit.specs.Value.{differ, isUnknown, neg}
+use Rattle.values.specs.Value.{differ, isUnknown, neg}
 
 -- two functions agree at every node
 abbrev pub SameNodes : Net → (ℕ → ℕ) → (ℕ → ℕ) → Type 0

@@ -13,15 +13,15 @@ use Rattle.checker.proofs.VerdictLaws.{Allowed, Follows, next-step, no-
 use Rattle.checker.specs.Window.{Branch, begin, conclusion, enter, held, inForce, known, outputConclusion, pinConclusion, pinFrame}
 use Rattle.checker.specs.declared.step.Step.{Step}
 use Rattle.circuit.proofs.ClockLaws.{Ordered}
-use Rattle.circuit.proofs.GateLaws.{Refines, RefinesAll, gate-mono, indexed-refines, set-refines, stuck-mono, stuckOr-refines}
-use Rattle.circuit.proofs.ListLaws.{indexed-at, set-either}
-use Rattle.circuit.proofs.ValueLaws.{differing, known-is, stuck-free, unknown-is}
+use Rattle.values.proofs.GateLaws.{Refines, RefinesAll, gate-mono, indexed-refines, set-refines, stuck-mono, stuckOr-refines}
+use Rattle.values.proofs.ListLaws.{indexed-at, set-either}
+use Rattle.values.proofs.ValueLaws.{differing, known-is, stuck-free, unknown-is}
 use Rattle.circuit.specs.Clock.{pinValues}
 use Rattle.circuit.specs.Fault.{StuckLines}
-use Rattle.circuit.specs.Kind.{controlling, gate, ruleOf}
-use Rattle.circuit.specs.Lists.{at}
+use Rattle.values.specs.Kind.{controlling, gate, ruleOf}
+use Rattle.values.specs.Lists.{at}
 use Rattle.circuit.specs.Netlist.{Net}
-use Rattle.circuit.specs.Value.{differ, isUnknown, neg, stuckOr}
+use Rattle.values.specs.Value.{differ, isUnknown, neg, stuckOr}
 
 -- pin k is not w where w there would give another output than the one that is known
 not-filled : (kind : ℕ) {vs ws : List ℕ} → RefinesAll vs ws → (o y k w : ℕ) → Refines o y → y ≡ gate kind ws → differ (gate kind (set vs k w)) o ≡ true → getD ws k w ≡ w → ⊥

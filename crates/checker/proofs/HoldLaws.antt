@@ -13,13 +13,13 @@ use lib.ListN.{getD, getD-replicate, length, length-replicate, length-set, repli
 use lib.Seq.{getD-set-other, getD-set-same}
 use Rattle.checker.proofs.RelationLaws.{absent-from, present-below}
 use Rattle.checker.specs.Window.{Branch, Entered, Holds, begin, beginAt, beginIn, entered, held, holdFrames, known, presentBelow}
-use Rattle.circuit.proofs.BoolLaws.{and-left, and-right}
+use Rattle.values.proofs.BoolLaws.{and-left, and-right}
 use Rattle.circuit.proofs.FaultLaws.{other-nodes}
-use Rattle.circuit.proofs.ValueLaws.{stuck-free, stuck-known}
+use Rattle.values.proofs.ValueLaws.{stuck-free, stuck-known}
 use Rattle.circuit.specs.Fault.{StuckLines, faultExists, isWhole, linesOf, noneStuck, siteExists}
-use Rattle.circuit.specs.Lists.{at}
+use Rattle.values.specs.Lists.{at}
 use Rattle.circuit.specs.Netlist.{Net}
-use Rattle.circuit.specs.Value.{differ, stuckOr}
+use Rattle.values.specs.Value.{differ, stuckOr}
 use Rattle.circuit.specs.declared.fault.Fault.{Fault}
 
 -- the place of a node at a frame lies in the window, and no other node and frame has it

@@ -12,13 +12,13 @@ use lib.Seq.{drop-cons, take-at}
 use borrow.Author.Tests.{le-leb, lt-leb, ne-eqb}
 use Rattle.checker.proofs.Agreement.{markNext}
 use Rattle.checker.specs.Trace.{cleared, effectDies, gateMark, latchedMark, latchedMarks, latchedUntouched, mark, marksList, nodeMark, outputUntouched, pinMark, siteMark, someMark, traced, tracing, untouchedValue}
-use Rattle.circuit.proofs.ListLaws.{build-rest, build-same, length-build, take-inside}
-use Rattle.circuit.proofs.ValueLaws.{known-low, unknown-high}
+use Rattle.values.proofs.ListLaws.{build-rest, build-same, length-build, take-inside}
+use Rattle.values.proofs.ValueLaws.{known-low, unknown-high}
 use Rattle.circuit.specs.Fault.{StuckLines, noneStuck}
-use Rattle.circuit.specs.Kind.{gate, isFlipFlop, isGiven, isOutput}
-use Rattle.circuit.specs.Lists.{at, build, every, indexed}
+use Rattle.values.specs.Kind.{gate, isFlipFlop, isGiven, isOutput}
+use Rattle.values.specs.Lists.{at, build, every, indexed}
 use Rattle.circuit.specs.Netlist.{Net}
-use Rattle.circuit.specs.Value.{isUnknown}
+use Rattle.values.specs.Value.{isUnknown}
 
 -- a line that is touched is enough
 pub some-at : (ms : List ℕ) (k : ℕ) → k < length ms → (at ms k ≡ 0 → ⊥) → someMark ms ≡ true

@@ -18,9 +18,9 @@ use Rattle.checker.specs.declared.verdict.Judgement.{Judgement}
 use Rattle.checker.specs.declared.step.Step.{Step}
 use Rattle.circuit.proofs.ClockLaws.{Ordered}
 use Rattle.circuit.specs.Fault.{StuckLines}
-use Rattle.circuit.specs.Lists.{at}
+use Rattle.values.specs.Lists.{at}
 use Rattle.circuit.specs.Netlist.{Net}
-use Rattle.circuit.specs.Value.{differ, isUnknown, stuckOr}
+use Rattle.values.specs.Value.{differ, isUnknown, stuckOr}
 
 -- the steps that are left once i of m have been read: one more, or none
 pub steps-more : (m i : ℕ) (run : List ℕ) → i < m → stepsIn (m - i) (drop (7 * i) run) ≡ stepOf (drop (7 * i) run) ∷ stepsIn (m - (i + 1)) (drop (7 * (i + 1)) run)

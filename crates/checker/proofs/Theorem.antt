@@ -18,14 +18,14 @@ use Rattle.checker.specs.Checker.{CheckerCall, accepted, checkerCall, ch
 use Rattle.checker.specs.Statement.{EqualOutputs, Redundant}
 use Rattle.checker.specs.Trace.{effectDies}
 use Rattle.checker.specs.Window.{known, presentBelow}
-use Rattle.circuit.proofs.BoolLaws.{and-left}
+use Rattle.values.proofs.BoolLaws.{and-left}
 use Rattle.circuit.proofs.ClockLaws.{Ordered, sound-ordered}
-use Rattle.circuit.proofs.GateLaws.{Refines}
+use Rattle.values.proofs.GateLaws.{Refines}
 use Rattle.circuit.proofs.RunLaws.{latchedAfter-binary}
 use Rattle.circuit.specs.Answer.{Answer, Outcome, outcome}
 use Rattle.circuit.specs.ClockLists.{InputBits, LatchedBits, latchedAfter, latchedBefore}
 use Rattle.circuit.specs.Fault.{StuckLines, linesOf, noneStuck}
-use Rattle.circuit.specs.Lists.{at}
+use Rattle.values.specs.Lists.{at}
 use Rattle.circuit.specs.Netlist.{Net, netOf, nodeCount, pinCount}
 
 -- a closed branch is closed by contradiction or by its effect trace

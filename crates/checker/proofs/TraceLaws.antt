@@ -13,17 +13,17 @@ use borrow.Author.Tests.{eq-eqb, eqb-true, ne-eqb}
 use Rattle.checker.proofs.Agreement.{latched-law, marks-law}
 use Rattle.checker.specs.Trace.{effectDies, gateMark, latchedMark, latchedMarks, marksList, nodeMark, pinMark}
 use Rattle.checker.specs.Trace.{latchedUntouched, mark, outputUntouched, siteMark, someMark, untouchedValue}
-use Rattle.circuit.proofs.BoolLaws.{and-left, and-right, or-right}
+use Rattle.values.proofs.BoolLaws.{and-left, and-right, or-right}
 use Rattle.circuit.proofs.ClockLaws.{Ordered}
-use Rattle.circuit.proofs.GateLaws.{Controls, EveryPin, Parity, SomePin, Wired, controls-binary, neg-binary, parity-open, wired-value}
-use Rattle.circuit.proofs.GateLaws.{controlled, controlled-by, uncontrolled-by, unsettled}
-use Rattle.circuit.proofs.ListLaws.{every-at, every-by, indexed-at, length-indexed, list-of-one, list-of-two}
-use Rattle.circuit.proofs.ValueLaws.{known-low, known-is, unknown-high}
+use Rattle.values.proofs.GateLaws.{Controls, EveryPin, Parity, SomePin, Wired, controls-binary, neg-binary, parity-open, wired-value}
+use Rattle.values.proofs.GateLaws.{controlled, controlled-by, uncontrolled-by, unsettled}
+use Rattle.values.proofs.ListLaws.{every-at, every-by, indexed-at, length-indexed, list-of-one, list-of-two}
+use Rattle.values.proofs.ValueLaws.{known-low, known-is, unknown-high}
 use Rattle.circuit.specs.Fault.{StuckLines, noneStuck}
-use Rattle.circuit.specs.Kind.{gate, invertedIf, isFlipFlop, isGiven, isOutput}
-use Rattle.circuit.specs.Lists.{at, every, indexed}
+use Rattle.values.specs.Kind.{gate, invertedIf, isFlipFlop, isGiven, isOutput}
+use Rattle.values.specs.Lists.{at, every, indexed}
 use Rattle.circuit.specs.Netlist.{Net}
-use Rattle.circuit.specs.Value.{isUnknown, neg}
+use Rattle.values.specs.Value.{isUnknown, neg}
 
 -- A faulted line (u is 0 or 1) is touched unless known (v) to be u; any other as `otherwise` says.
 module _ (u v otherwise : ℕ) where

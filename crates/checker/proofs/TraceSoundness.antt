@@ -12,18 +12,18 @@ use Rattle.checker.proofs.Agreement.{latched-law, marks-law}
 use Rattle.checker.proofs.HybridRuns.{seenIn, seenIn-agree}
 use Rattle.checker.specs.Trace.{effectDies, gateMark, latchedMark, latchedMarks, latchedUntouched, mark, marksList, nodeMark, outputUntouched, pinMark, siteMark, someMark, untouchedValue}
 use Rattle.checker.specs.Window.{presentBelow}
-use Rattle.circuit.proofs.BoolLaws.{and-left, and-right, implied}
+use Rattle.values.proofs.BoolLaws.{and-left, and-right, implied}
 use Rattle.circuit.proofs.ClockLaws.{Ordered, latched-at, seen-law}
-use Rattle.circuit.proofs.GateLaws.{Refines, RefinesAll, gate-mono, indexed-refines}
-use Rattle.circuit.proofs.ListLaws.{Below, bcons, bnil, every-at}
-use Rattle.circuit.proofs.ValueLaws.{known-is}
+use Rattle.values.proofs.GateLaws.{Refines, RefinesAll, gate-mono, indexed-refines}
+use Rattle.values.proofs.ListLaws.{Below, bcons, bnil, every-at}
+use Rattle.values.proofs.ValueLaws.{known-is}
 use Rattle.circuit.specs.Clock.{latchedBy, pinValues, seenBy}
 use Rattle.circuit.specs.ClockLists.{clockStart, latchedAfter, seenAfter}
 use Rattle.circuit.specs.Fault.{StuckLines, noneStuck}
-use Rattle.circuit.specs.Kind.{gate, isFlipFlop, isGiven, isOutput}
-use Rattle.circuit.specs.Lists.{at, every, indexed}
+use Rattle.values.specs.Kind.{gate, isFlipFlop, isGiven, isOutput}
+use Rattle.values.specs.Lists.{at, every, indexed}
 use Rattle.circuit.specs.Netlist.{Net}
-use Rattle.circuit.specs.Value.{isUnknown, stuckOr}
+use Rattle.values.specs.Value.{isUnknown, stuckOr}
 
 no-mark : (b : Bool) → mark b ≡ 0 → b ≡ false
 no-mark true e = absurd (omega arith)

@@ -13,13 +13,13 @@ use Rattle.checker.specs.Checker.{CheckerCall, accepted, branchCloses, c
 use Rattle.checker.specs.Window.{Branch, begin, conclusion, enter, inForce, known, presentBelow}
 use Rattle.checker.specs.declared.verdict.Judgement.{Judgement}
 use Rattle.checker.specs.declared.step.Step.{Step}
-use Rattle.circuit.proofs.BoolLaws.{and-left, and-right}
-use Rattle.circuit.proofs.ListLaws.{any-by, any-found}
+use Rattle.values.proofs.BoolLaws.{and-left, and-right}
+use Rattle.values.proofs.ListLaws.{any-by, any-found}
 use Rattle.circuit.proofs.RefusalLaws.{FirstFails, NoneSmaller, Passed, refusal-at, refusal-by, refusal-none, refusal-smallest, refusal-some}
 use Rattle.circuit.proofs.SoundLaws.{answered-sound}
 use Rattle.circuit.specs.Answer.{Answer, Outcome, answered, refusal, refused}
 use Rattle.circuit.specs.Fault.{StuckLines, linesOf}
-use Rattle.circuit.specs.Lists.{any}
+use Rattle.values.specs.Lists.{any}
 use Rattle.circuit.specs.Netlist.{Net, netOf, nodeCount, pinCount, reading, sound}
 
 -- A step that follows: it names nodes and frames of the window and a value; the relation that it names is in force and concludes it from

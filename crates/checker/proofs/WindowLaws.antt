@@ -8,13 +8,13 @@ use native.Mathlib.Omega.{arith}
 use lib.ListN.{drop, set}
 use lib.Seq.{getD-drop}
 use Rattle.checker.specs.Window.{conclusion, hasRelation, knownIn, lineFrame, lineNode, outputConclusion, pinConclusion, pinFrame}
-use Rattle.circuit.proofs.ValueLaws.{known-low, unknown-high}
+use Rattle.values.proofs.ValueLaws.{known-low, unknown-high}
 use Rattle.circuit.specs.Clock.{pinValues}
 use Rattle.circuit.specs.Fault.{StuckLines}
-use Rattle.circuit.specs.Kind.{controlling, gate, isFlipFlop, isInput, ruleOf}
-use Rattle.circuit.specs.Lists.{at}
+use Rattle.values.specs.Kind.{controlling, gate, isFlipFlop, isInput, ruleOf}
+use Rattle.values.specs.Lists.{at}
 use Rattle.circuit.specs.Netlist.{Net}
-use Rattle.circuit.specs.Value.{differ, isUnknown, neg}
+use Rattle.values.specs.Value.{differ, isUnknown, neg}
 
 -- a relation's pins: a flip-flop's stand one frame earlier
 pub frame-before : (k t : ℕ) → isFlipFlop k ≡ true → t - 1 ≡ pinFrame k t

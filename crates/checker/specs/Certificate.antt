@@ -5,8 +5,7 @@ use Prim.Native.Nat.{_%_, _*_, _+_, _/_, suc, zero, ℕ}
 use lib.Dec.{eqb}
 use lib.ListN.{drop, length}
 use Rattle.circuit.specs.Fault.{siteOf}
-use Rattle.circuit.specs.Lists.{at}
-use Rattle.circuit.specs.Netlist.{u16At}
+use Rattle.values.specs.Lists.{at, u16At}
 use Rattle.circuit.specs.declared.fault.Fault.{Fault}
 use Rattle.checker.specs.declared.certificate.Head.{Head}
 use Rattle.checker.specs.declared.step.Step.{Step}

@@ -7,7 +7,7 @@ use lib.Dec.{eqb, leb, ltb}
 use lib.ListN.{length}
 use Rattle.circuit.specs.Answer.{Answer, Outcome, Test, answered, outcome, refusal, refused}
 use Rattle.circuit.specs.Fault.{StuckLines, faultExists, linesOf}
-use Rattle.circuit.specs.Lists.{any}
+use Rattle.values.specs.Lists.{any}
 use Rattle.circuit.specs.Netlist.{Net, netOf, reading}
 use Rattle.checker.specs.Certificate.{cOf, fOf, faultOf, framesOf, headLength, pairsRight, splitFrame, splitNode, stepsOf}
 use Rattle.checker.specs.Trace.{cleared, effectDies}

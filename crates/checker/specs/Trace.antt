@@ -5,10 +5,10 @@ use Prim.Native.Nat.{_*_, _+_, suc, zero, ℕ}
 use lib.Dec.{eqb, leb}
 use lib.ListN.{drop, length, replicate}
 use Rattle.circuit.specs.Fault.{StuckLines, noneStuck}
-use Rattle.circuit.specs.Kind.{gate, isFlipFlop, isGiven, isOutput}
-use Rattle.circuit.specs.Lists.{at, build, every, indexed, table}
+use Rattle.values.specs.Kind.{gate, isFlipFlop, isGiven, isOutput}
+use Rattle.values.specs.Lists.{at, build, every, indexed, table}
 use Rattle.circuit.specs.Netlist.{Net}
-use Rattle.circuit.specs.Value.{isUnknown}
+use Rattle.values.specs.Value.{isUnknown}
 
 -- a mark is 1 where a line is touched, 0 where not
 abbrev pub mark : Bool → ℕ

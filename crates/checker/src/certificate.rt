@@ -28,25 +28,25 @@ fn u32_at(bytes: &[u8], place: usize) -> u32
     if bytes.len() <= place {
         return 0;
     }
-    circuit::u16_at(bytes, place) as u32 + 65536 * (circuit::u16_at(bytes, place + 2) as u32)
+    values::u16_at(bytes, place) as u32 + 65536 * (values::u16_at(bytes, place + 2) as u32)
 }
 
 pub fn head_of(certificate: &[u8]) -> Head
     ensures { λ r. ⌜ r ≡ headOf (now (certificate .entry)) ⌝ }
 {
-    let site = circuit::site_of(circuit::byte_at(certificate, 2));
+    let site = circuit::site_of(values::byte_at(certificate, 2));
     let fault = Fault {
-        node: circuit::u16_at(certificate, 0),
+        node: values::u16_at(certificate, 0),
         site,
-        stuck: circuit::byte_at(certificate, 3),
+        stuck: values::byte_at(certificate, 3),
     };
-    let rest = circuit::tail(certificate, FAULT_LENGTH);
+    let rest = values::tail(certificate, FAULT_LENGTH);
     Head {
         fault,
-        c: circuit::byte_at(rest, 0),
-        f: circuit::byte_at(rest, 1),
-        node: circuit::u16_at(rest, 2),
-        frame: circuit::byte_at(rest, 4),
+        c: values::byte_at(rest, 0),
+        f: values::byte_at(rest, 1),
+        node: values::u16_at(rest, 2),
+        frame: values::byte_at(rest, 4),
     }
 }
 
@@ -55,7 +55,7 @@ pub fn run_offset(certificate: &[u8], v: u8) -> u32
     ensures { λ r. ⌜ r ≡ runOffset (now (certificate .entry)) v ⌝ }
 {
     u32_at(
-        circuit::tail(certificate, FAULT_LENGTH),
+        values::tail(certificate, FAULT_LENGTH),
         5 + 8 * (v as usize),
     )
 }
@@ -64,7 +64,7 @@ pub fn run_length(certificate: &[u8], v: u8) -> u32
     ensures { λ r. ⌜ r ≡ runLength (now (certificate .entry)) v ⌝ }
 {
     u32_at(
-        circuit::tail(certificate, FAULT_LENGTH),
+        values::tail(certificate, FAULT_LENGTH),
         9 + 8 * (v as usize),
     )
 }

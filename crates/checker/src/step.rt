@@ -16,10 +16,10 @@ pub fn step_at(bytes: &[u8]) -> Step
     ensures { λ r. ⌜ r ≡ stepOf (now (bytes .entry)) ⌝ }
 {
     Step {
-        node: circuit::u16_at(bytes, 0),
-        frame: circuit::byte_at(bytes, 2),
-        value: circuit::byte_at(bytes, 3),
-        via: circuit::u16_at(bytes, 4),
-        during: circuit::byte_at(bytes, 6),
+        node: values::u16_at(bytes, 0),
+        frame: values::byte_at(bytes, 2),
+        value: values::byte_at(bytes, 3),
+        via: values::u16_at(bytes, 4),
+        during: values::byte_at(bytes, 6),
     }
 }

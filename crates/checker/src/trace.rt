@@ -6,18 +6,18 @@ ghost use mathlib.Core.List.{_++_, []};
 ghost use Prim.Native.Nat.{_*_, _+_, _≤_};
 ghost use lib.ListN.{drop, length, replicate, take};
 ghost use Rattle.circuit.specs.Fault.{linesIn, linesOf};
-ghost use Rattle.circuit.specs.Kind.{gate};
-ghost use Rattle.circuit.specs.Lists.{at, every, indexed};
+ghost use Rattle.values.specs.Kind.{gate};
+ghost use Rattle.values.specs.Lists.{at, every, indexed};
 ghost use Rattle.circuit.specs.Netlist.{kindOf, netOf, sourceOf};
 ghost use Rattle.checker.specs.Window.{knownIn};
 ghost use Rattle.checker.specs.Trace.{effectDies, gateMark, latchedMark, latchedMarks, latchedUntouched, marksList, nodeMark, outputUntouched, pinMark, siteMark, someMark, traced, tracing, untouchedValue};
 use crate::window::place_of;
 use circuit::Circuit;
-use circuit::FLIP_FLOP;
 use circuit::Fault;
 use circuit::NOT_STUCK;
-use circuit::OUTPUT;
-use circuit::UNKNOWN;
+use values::FLIP_FLOP;
+use values::OUTPUT;
+use values::UNKNOWN;
 
 // A faulted line is touched unless its value is known to be the stuck one; any other as it is said.
 fn site_mark(stuck: u8, value: u8, otherwise: u8) -> u8
@@ -34,7 +34,7 @@ fn mark_below(marks: &[u8], limit: u16, node: u16) -> u8
     ensures { λ r. ⌜ r ≡ at (take limit (now (marks .entry))) node ⌝ }
 {
     if node < limit {
-        return circuit::byte_at(marks, node as usize);
+        return values::byte_at(marks, node as usize);
     }
     0
 }
@@ -53,7 +53,7 @@ fn pin_mark(
 {
     let source = circuit::source_of(netlist, node, pin);
     let stuck = circuit::stuck_pin(circuit, node, pin);
-    let value = circuit::byte_at(values, source as usize);
+    let value = values::byte_at(values, source as usize);
     site_mark(stuck, value, mark_below(marks, limit, source))
 }
 
@@ -94,7 +94,7 @@ fn untouched_value(
         return UNKNOWN;
     }
     let source = circuit::source_of(netlist, node, pin);
-    circuit::byte_at(values, source as usize)
+    values::byte_at(values, source as usize)
 }
 
 // What a node makes of its untouched pins.
@@ -108,16 +108,16 @@ fn untouched_gate(
 ) -> u8
     ensures { λ r. ⌜ r ≡ gate (kindOf (now (netlist .entry)) node) (indexed (λ k m. untouchedValue (pinMark (netOf (now (netlist .entry))) (linesIn circuit) (at (now (values .entry))) (at (take limit (now (marks .entry)))) node k m) (at (now (values .entry)) m)) 0 (netOf (now (netlist .entry)) .pins node)) ⌝ }
 {
-    let rule = circuit::rule_of(circuit::kind_of(netlist, node));
+    let rule = values::rule_of(circuit::kind_of(netlist, node));
     let gate = rule.gate;
-    let mut value = circuit::unit_of(gate);
+    let mut value = values::unit_of(gate);
     let mut pin = circuit::length_of(netlist, node);
     while 0 < pin {
         pin -= 1;
         let read = untouched_value(netlist, circuit, values, marks, limit, node, pin);
-        value = circuit::join_of(gate, read, value);
+        value = values::join_of(gate, read, value);
     }
-    circuit::inverted_if(rule.inverted, value)
+    values::inverted_if(rule.inverted, value)
 }
 
 // A node with a touched pin is touched unless its untouched pins settle its value.
@@ -147,12 +147,12 @@ fn node_mark(netlist: &[u8], circuit: Circuit, values: &[u8], marks: &[u8], node
     ensures { λ r. ⌜ r ≡ nodeMark (netOf (now (netlist .entry))) (linesIn circuit) (at (now (values .entry))) (at (now (marks .entry))) (at (take node (now (marks .entry)))) node ⌝ }
 {
     let stuck = circuit::stuck_node(circuit, node);
-    let value = circuit::byte_at(values, node as usize);
+    let value = values::byte_at(values, node as usize);
     let kind = circuit::kind_of(netlist, node);
     if kind == FLIP_FLOP {
-        return site_mark(stuck, value, circuit::byte_at(marks, node as usize));
+        return site_mark(stuck, value, values::byte_at(marks, node as usize));
     }
-    if circuit::is_given(kind) {
+    if values::is_given(kind) {
         return site_mark(stuck, value, 0);
     }
     site_mark(
@@ -171,7 +171,7 @@ fn mark_nodes(netlist: &[u8], n: u16, circuit: Circuit, values: &[u8], marks: &m
     let mut node: u16 = 0;
     while node < n {
         let value = node_mark(netlist, circuit, values, marks, node);
-        circuit::store(marks, node as usize, value);
+        values::store(marks, node as usize, value);
         node += 1;
     }
 }
@@ -204,8 +204,8 @@ fn move_down(n: u16, marks: &mut [u8])
 {
     let mut node: u16 = 0;
     while node < n {
-        let value = circuit::byte_at(marks, n as usize + node as usize);
-        circuit::store(marks, node as usize, value);
+        let value = values::byte_at(marks, n as usize + node as usize);
+        values::store(marks, node as usize, value);
         node += 1;
     }
 }
@@ -220,7 +220,7 @@ fn latch_marks(netlist: &[u8], n: u16, circuit: Circuit, values: &[u8], marks: &
     let mut node: u16 = 0;
     while node < n {
         let value = latched_mark(netlist, n, circuit, values, marks, node);
-        circuit::store(marks, n as usize + node as usize, value);
+        values::store(marks, n as usize + node as usize, value);
         node += 1;
     }
     move_down(n, marks);
@@ -229,7 +229,7 @@ fn latch_marks(netlist: &[u8], n: u16, circuit: Circuit, values: &[u8], marks: &
 fn output_untouched(netlist: &[u8], marks: &[u8], node: u16) -> bool
     ensures { λ r. ⌜ r ≡ outputUntouched (netOf (now (netlist .entry))) (now (marks .entry)) node ⌝ }
 {
-    circuit::kind_of(netlist, node) != OUTPUT || circuit::byte_at(marks, node as usize) == 0
+    circuit::kind_of(netlist, node) != OUTPUT || values::byte_at(marks, node as usize) == 0
 }
 
 fn outputs_untouched(netlist: &[u8], n: u16, marks: &[u8]) -> bool
@@ -274,7 +274,7 @@ fn mark_frame(
     ensures { λ _. ⌜ take n (now (marks .exit)) ≡ marksList (netOf (now (netlist .entry))) (linesIn circuit) (λ m. knownIn (now (known .entry)) (netOf (now (netlist .entry)) .size) m frame) (at (take n (now (marks .entry)))) ⌝ }
     ensures { λ r. ⌜ r ≡ every (outputUntouched (netOf (now (netlist .entry))) (marksList (netOf (now (netlist .entry))) (linesIn circuit) (λ m. knownIn (now (known .entry)) (netOf (now (netlist .entry)) .size) m frame) (at (take n (now (marks .entry)))))) (netOf (now (netlist .entry)) .size) ⌝ }
 {
-    let values = circuit::tail(known, place_of(n, 0, frame));
+    let values = values::tail(known, place_of(n, 0, frame));
     mark_nodes(netlist, n, circuit, values, marks);
     outputs_untouched(netlist, n, marks)
 }
@@ -285,7 +285,7 @@ fn latch_frame(netlist: &[u8], n: u16, circuit: Circuit, known: &[u8], frame: u1
     requires { ⌜ n + n ≤ length (now marks) ⌝ }
     ensures { λ _. ⌜ take n (now (marks .exit)) ≡ latchedMarks (netOf (now (netlist .entry))) (linesIn circuit) (λ m. knownIn (now (known .entry)) (netOf (now (netlist .entry)) .size) m frame) (at (take n (now (marks .entry)))) ⌝ }
 {
-    let values = circuit::tail(known, place_of(n, 0, frame));
+    let values = values::tail(known, place_of(n, 0, frame));
     latch_marks(netlist, n, circuit, values, marks);
 }
 
@@ -301,7 +301,7 @@ fn pins_die(
     requires { ⌜ n ≡ netOf (now netlist) .size ⌝ }
     ensures { λ r. ⌜ r ≡ every (latchedUntouched (latchedMarks (netOf (now (netlist .entry))) (linesIn circuit) (λ m. knownIn (now (known .entry)) (netOf (now (netlist .entry)) .size) m frame) (at (take n (now (marks .entry)))))) (netOf (now (netlist .entry)) .size) ⌝ }
 {
-    let values = circuit::tail(known, place_of(n, 0, frame));
+    let values = values::tail(known, place_of(n, 0, frame));
     pins_untouched(netlist, n, circuit, values, marks)
 }
 
@@ -349,9 +349,9 @@ fn trace_window(
     requires { ⌜ n * (f + 1) ≡ length (now marks) ⌝ }
     ensures { λ r. ⌜ traced r (now (marks .exit)) ≡ traced (effectDies (netOf (now (netlist .entry))) (knownIn (now (known .entry)) (netOf (now (netlist .entry)) .size)) f c (linesOf fault) []) (replicate (length (now (marks .entry))) 0) ⌝ }
 {
-    circuit::fill(marks, 0);
+    values::fill(marks, 0);
     let dies = dies_from(netlist, n, fault, c, f, known, marks);
-    circuit::fill(marks, 0);
+    values::fill(marks, 0);
     dies
 }
 

@@ -75,7 +75,7 @@ fn judge_branch(
     let mut closed = begin_branch(netlist, fault, c, head.node, head.frame, v, known);
     let mut taken: usize = 0;
     while taken < steps {
-        let step = step_at(circuit::tail(run, 7 * taken));
+        let step = step_at(values::tail(run, 7 * taken));
         if closed {
             return Judgement::NotAllowed;
         }
@@ -162,8 +162,8 @@ fn judge(
     let head = head_of(certificate);
     let zero = judge_run(netlist, n, certificate, w, 0, known, marks);
     let one = judge_run(netlist, n, certificate, w, 1, known, marks);
-    circuit::fill(known, 0);
-    circuit::fill(marks, 0);
+    values::fill(known, 0);
+    values::fill(marks, 0);
     verdict_of(zero, one, head.c)
 }
 

@@ -7,15 +7,15 @@ use Prim.Native.Nat.{_<_, _≤_, suc, zero, ℕ}
 use native.Mathlib.Omega.{arith}
 use lib.ListN.{drop, length}
 use borrow.Author.Tests.{eqb-true}
-use Rattle.circuit.proofs.ListLaws.{Below, below-table, build-agree, build-read, build-rest, build-same, getD-build, indexed-agree, length-build}
-use Rattle.circuit.proofs.ValueLaws.{stuck-free, stuck-known}
+use Rattle.values.proofs.ListLaws.{Below, below-table, build-agree, build-read, build-rest, build-same, getD-build, indexed-agree, length-build}
+use Rattle.values.proofs.ValueLaws.{stuck-free, stuck-known}
 use Rattle.circuit.proofs.SoundLaws.{Facts, facts}
 use Rattle.circuit.specs.Clock.{latchedBy, latchedList, pinValues, seenBy, seenList}
 use Rattle.circuit.specs.Fault.{StuckLines}
-use Rattle.circuit.specs.Kind.{gate, isFlipFlop, isGiven, isInput}
-use Rattle.circuit.specs.Lists.{at, build}
+use Rattle.values.specs.Kind.{gate, isFlipFlop, isGiven, isInput}
+use Rattle.values.specs.Lists.{at, build}
 use Rattle.circuit.specs.Netlist.{Net, kindOf, lengthOf, netOf, nodeCount, pinsOf, reading, sound, sourceOf}
-use Rattle.circuit.specs.Value.{stuckOr}
+use Rattle.values.specs.Value.{stuckOr}
 
 module _ (c : Net) (s : StuckLines) (given v : ℕ → ℕ) (n : ℕ) where
   -- a faulted node is seen at its stuck value

@@ -4,7 +4,7 @@ use mathlib.Core.Path.{_∙_, _≡_, ap, refl}
 use Prim.Native.Nat.{ℕ}
 use lib.Dec.{eqb}
 use borrow.Author.Tests.{eq-eqb, eqb-true}
-use Rattle.circuit.proofs.BoolLaws.{and-left, and-right}
+use Rattle.values.proofs.BoolLaws.{and-left, and-right}
 use Rattle.circuit.specs.Fault.{isPin, isWhole, linesOf}
 use Rattle.circuit.specs.declared.fault.Fault.{Fault}
 use Rattle.circuit.specs.declared.fault.Site.{Site}

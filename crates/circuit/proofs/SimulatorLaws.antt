@@ -8,8 +8,8 @@ use native.Mathlib.Omega.{arith}
 use lib.Dec.{eqb, leb}
 use lib.ListN.{length}
 use borrow.Author.Tests.{eq-eqb, eqb-true, leb-true, ne-eqb}
-use Rattle.circuit.proofs.BoolLaws.{and-left, and-right}
-use Rattle.circuit.proofs.ListLaws.{every-at}
+use Rattle.values.proofs.BoolLaws.{and-left, and-right}
+use Rattle.values.proofs.ListLaws.{every-at}
 use Rattle.circuit.proofs.RefusalLaws.{FirstFails, NoneSmaller, Passed, refusal-at, refusal-by, refusal-none, refusal-smallest}
 use Rattle.circuit.proofs.RunLaws.{stepped-clock}
 use Rattle.circuit.proofs.SoundLaws.{answered-sound}
@@ -17,8 +17,8 @@ use Rattle.circuit.specs.Answer.{Answer, Outcome, answered, outcome, ref
 use Rattle.circuit.specs.Clock.{SimulatorCall, placeFits, simulation, simulatorTests, slicesFit, clockStep, turnedBack}
 use Rattle.circuit.specs.ClockLists.{InputBits, LatchedBits, latchedAfter, seenAfter}
 use Rattle.circuit.specs.Fault.{linesIn}
-use Rattle.circuit.specs.Kind.{isGiven}
-use Rattle.circuit.specs.Lists.{at, every}
+use Rattle.values.specs.Kind.{isGiven}
+use Rattle.values.specs.Lists.{at, every}
 use Rattle.circuit.specs.Netlist.{Net, netOf, nodeCount, pinCount, reading, sound}
 
 module _ (a : SimulatorCall) where

@@ -7,10 +7,10 @@ use lib.Dec.{eqb, leb}
 use lib.ListN.{length}
 use Rattle.circuit.specs.Answer.{Answer, Outcome, Test, answered, outcome, refusal, refused}
 use Rattle.circuit.specs.Fault.{StuckLines, circuitExists, linesIn}
-use Rattle.circuit.specs.Kind.{gate, isFlipFlop, isGiven}
-use Rattle.circuit.specs.Lists.{at, build, every, indexed, table}
+use Rattle.values.specs.Kind.{gate, isFlipFlop, isGiven}
+use Rattle.values.specs.Lists.{at, build, every, indexed, table}
 use Rattle.circuit.specs.Netlist.{Net, netOf, reading}
-use Rattle.circuit.specs.Value.{stuckOr}
+use Rattle.values.specs.Value.{stuckOr}
 use Rattle.circuit.specs.declared.clock.Stepped.{Stepped}
 use Rattle.circuit.specs.declared.fault.Circuit.{Circuit}
 

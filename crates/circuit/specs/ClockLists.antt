@@ -8,8 +8,8 @@ use Prim.Native.Nat.{_<_, ℕ}
 use lib.ListN.{getD, take}
 use Rattle.circuit.specs.Clock.{latchedList, seenList}
 use Rattle.circuit.specs.Fault.{StuckLines}
-use Rattle.circuit.specs.Kind.{isFlipFlop}
-use Rattle.circuit.specs.Lists.{at}
+use Rattle.values.specs.Kind.{isFlipFlop}
+use Rattle.values.specs.Lists.{at}
 use Rattle.circuit.specs.Netlist.{Net}
 
 -- what a clock step is given: the latched value at a flip-flop, the clock's value at an input

@@ -6,13 +6,9 @@ use Prim.Native.Nat.{_*_, _+_, suc, zero, ℕ}
 use lib.Dec.{eqb, leb, ltb}
 use lib.ListN.{length}
 use Rattle.circuit.specs.Answer.{Answer, Test, answered, refusal, refused}
-use Rattle.circuit.specs.Kind.{isFlipFlop, isKind, isOutput, ruleOf}
-use Rattle.circuit.specs.Lists.{at, every, table}
+use Rattle.values.specs.Kind.{isFlipFlop, isKind, isOutput, ruleOf}
+use Rattle.values.specs.Lists.{at, every, table, u16At}
 use Rattle.circuit.specs.declared.netlist.Reading.{Reading}
-
--- the number of two bytes, little-endian
-abbrev pub u16At : List ℕ → ℕ → ℕ
-u16At bs i = at bs i + 256 * at bs (i + 1)
 
 -- a circuit: nodes 0 to size - 1, each with its kind and the sources of its pins in order
 pub record Net : Type 0 where

@@ -1,6 +1,6 @@
 // Stuck-at faults, and the lines that they hold.
 ghost use mathlib.Core.Path.{_≡_};
-ghost use Rattle.circuit.specs.Value.{stuckOr};
+ghost use Rattle.values.specs.Value.{stuckOr};
 ghost use Rattle.circuit.specs.Netlist.{netOf};
 ghost use Rattle.circuit.specs.Fault.{siteOf, isWhole, isPin, siteExists, faultExists, circuitExists, linesIn};
 use crate::netlist::length_of;

@@ -1,15 +1,8 @@
 // The circuit: what a netlist's bytes say, stuck-at faults, and one clock step.
-mod bytes;
 mod clock;
 mod fault;
-mod kind;
 mod netlist;
 
-pub use bytes::byte_at;
-pub use bytes::fill;
-pub use bytes::store;
-pub use bytes::tail;
-pub use bytes::u16_at;
 pub use clock::Stepped;
 pub use clock::gate_assuming;
 pub use clock::gate_value;
@@ -22,20 +15,6 @@ pub use fault::fault_exists;
 pub use fault::site_of;
 pub use fault::stuck_node;
 pub use fault::stuck_pin;
-pub use kind::FLIP_FLOP;
-pub use kind::Gate;
-pub use kind::INPUT;
-pub use kind::OUTPUT;
-pub use kind::Rule;
-pub use kind::UNKNOWN;
-pub use kind::controlling_value;
-pub use kind::inverted_if;
-pub use kind::is_given;
-pub use kind::join_of;
-pub use kind::negation;
-pub use kind::rule_of;
-pub use kind::unit_of;
-pub use kind::values_differ;
 pub use netlist::Reading;
 pub use netlist::kind_of;
 pub use netlist::length_of;

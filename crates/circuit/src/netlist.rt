@@ -1,17 +1,17 @@
 // The netlist: what its bytes say, and whether they are a sound netlist.
 ghost use mathlib.Core.Path.{_≡_};
 ghost use mathlib.Core.Bool.{_&&_, cond};
-ghost use Rattle.circuit.specs.Kind.{isFlipFlop};
+ghost use Rattle.values.specs.Kind.{isFlipFlop};
 ghost use lib.Dec.{eqb};
 ghost use Prim.Native.Nat.{_*_, _+_, _<_};
 ghost use Rattle.circuit.specs.Answer.{numberOf};
-ghost use Rattle.circuit.specs.Lists.{every};
-ghost use Rattle.circuit.specs.Netlist.{nodeCount, pinCount, kindOf, offsetOf, lengthOf, sourceOf, pairStart, sizesAllowed, kindKnown, pairJoined, countFits, sourceAllowed, sourcesAllowed, reading, readingSays, u16At};
-use crate::bytes::byte_at;
-use crate::bytes::u16_at;
-use crate::kind::FLIP_FLOP;
-use crate::kind::OUTPUT;
-use crate::kind::rule_of;
+ghost use Rattle.values.specs.Lists.{every, u16At};
+ghost use Rattle.circuit.specs.Netlist.{nodeCount, pinCount, kindOf, offsetOf, lengthOf, sourceOf, pairStart, sizesAllowed, kindKnown, pairJoined, countFits, sourceAllowed, sourcesAllowed, reading, readingSays};
+use values::FLIP_FLOP;
+use values::OUTPUT;
+use values::byte_at;
+use values::rule_of;
+use values::u16_at;
 
 // What reading a netlist finds: N and P of a sound one, or the refusal's number.
 pub enum Reading {

@@ -9,8 +9,8 @@ use Rattle.circuit.proofs.Vectors.{p1, p3, p6, p9}
 use Rattle.circuit.specs.Answer.{Answer, outcome, refused}
 use Rattle.circuit.specs.Clock.{pinValues}
 use Rattle.circuit.specs.Fault.{faultExists, linesOf}
-use Rattle.circuit.specs.Kind.{gate, ruleOf}
-use Rattle.circuit.specs.Lists.{any, build, every}
+use Rattle.values.specs.Kind.{gate, ruleOf}
+use Rattle.values.specs.Lists.{any, build, every}
 use Rattle.circuit.specs.Netlist.{countFits, kindKnown, netOf, pairJoined, pairStart, pinsOf, reading, sizesAllowed, sound, sourceAllowed, sourceOf, sourcesAllowed}
 use Rattle.circuit.specs.declared.fault.Fault.{Fault}
 use Rattle.circuit.specs.declared.fault.Site.{Site}

@@ -11,10 +11,10 @@ use lib.Dec.{eqb}
 use lib.ListN.{getD, length, length-append, length-replicate, length-set, replicate, set}
 use borrow.Author.Tests.{eqb-false, eqb-true}
 use Rattle.circuit.proofs.ClockLaws.{Ordered}
-use Rattle.circuit.proofs.ValueLaws.{known-low}
+use Rattle.values.proofs.ValueLaws.{known-low}
 use Rattle.circuit.specs.Fault.{StuckLines}
 use Rattle.circuit.specs.Netlist.{Net}
-use Rattle.circuit.specs.Value.{differ, isUnknown, stuckOr}
+use Rattle.values.specs.Value.{differ, isUnknown, stuckOr}
 use Rattle.checker.specs.Trace.{mark}
 use Rattle.checker.specs.Window.{Branch, begin, enter, held, inForce, known}
 use Rattle.checker.specs.declared.step.Step.{Step}

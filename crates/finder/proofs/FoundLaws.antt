@@ -9,16 +9,16 @@ use lib.Dec.{leb, ltb}
 use lib.ListN.{drop, length, length-replicate, replicate, take}
 use lib.Seq.{take-append-seam}
 use borrow.Author.Tests.{le-leb, leb-true, lt-ltb, ltb-true}
-use Rattle.circuit.proofs.BoolLaws.{and-left, and-right}
+use Rattle.values.proofs.BoolLaws.{and-left, and-right}
 use Rattle.circuit.proofs.ClockLaws.{sound-ordered}
-use Rattle.circuit.proofs.ListLaws.{every-at}
+use Rattle.values.proofs.ListLaws.{every-at}
 use Rattle.circuit.proofs.NetlistLaws.{pins-length}
 use Rattle.circuit.proofs.RefusalLaws.{Passed, refusal-none}
 use Rattle.circuit.proofs.SoundLaws.{answered-sound, facts}
 use Rattle.circuit.specs.Answer.{Answer, answered, refusal, refused}
 use Rattle.circuit.specs.Fault.{faultExists, linesOf, siteExists}
-use Rattle.circuit.specs.Kind.{ruleOf}
-use Rattle.circuit.specs.Lists.{every}
+use Rattle.values.specs.Kind.{ruleOf}
+use Rattle.values.specs.Lists.{every}
 use Rattle.circuit.specs.Netlist.{Net, kindOf, netOf, nodeCount, pinCount, reading, sound}
 use Rattle.circuit.specs.declared.fault.Fault.{Fault}
 use Rattle.circuit.specs.declared.fault.Site.{Site}

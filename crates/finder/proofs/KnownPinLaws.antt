@@ -10,16 +10,16 @@ use lib.Dec.{eqb}
 use lib.ListN.{getD, length, set}
 use lib.Seq.{set-getD}
 use borrow.Author.Tests.{eqb-true}
-use Rattle.circuit.proofs.ListLaws.{indexed-at}
-use Rattle.circuit.proofs.ValueLaws.{differ-same, differ-unknown-first, stuck-free, unknown-is}
+use Rattle.values.proofs.ListLaws.{indexed-at}
+use Rattle.values.proofs.ValueLaws.{differ-same, differ-unknown-first, stuck-free, unknown-is}
 use Rattle.circuit.specs.Clock.{pinValues}
 use Rattle.circuit.specs.Fault.{StuckLines}
-use Rattle.circuit.specs.Kind.{controlling, gate, ruleOf}
-use Rattle.circuit.specs.Lists.{at}
+use Rattle.values.specs.Kind.{controlling, gate, ruleOf}
+use Rattle.values.specs.Lists.{at}
 use Rattle.circuit.specs.Netlist.{Net}
-use Rattle.circuit.specs.Value.{differ, isUnknown, neg, stuckOr}
-use Rattle.circuit.specs.declared.kind.Gate.{Gate}
-use Rattle.circuit.specs.declared.kind.Gate.the-variants.{And, Or, Wire, Xor}
+use Rattle.values.specs.Value.{differ, isUnknown, neg, stuckOr}
+use Rattle.values.specs.declared.kind.Gate.{Gate}
+use Rattle.values.specs.declared.kind.Gate.the-variants.{And, Or, Wire, Xor}
 use Rattle.checker.specs.Window.{conclusion, outputConclusion, pinConclusion, pinFrame}
 use Rattle.finder.proofs.WorkLaws.{line-closed, line-is, line-old, line-silent, made, picked}
 use Rattle.finder.specs.Sweeps.{tryLine}

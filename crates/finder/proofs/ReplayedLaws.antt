@@ -10,11 +10,11 @@ use lib.Dec.{eqb}
 use lib.ListN.{length, replicate, set}
 use borrow.Author.Tests.{eqb-false}
 use Rattle.circuit.proofs.ClockLaws.{Ordered}
-use Rattle.circuit.proofs.ListLaws.{below-at}
-use Rattle.circuit.proofs.ValueLaws.{known-is}
+use Rattle.values.proofs.ListLaws.{below-at}
+use Rattle.values.proofs.ValueLaws.{known-is}
 use Rattle.circuit.specs.Fault.{StuckLines}
 use Rattle.circuit.specs.Netlist.{Net}
-use Rattle.circuit.specs.Value.{differ, isUnknown}
+use Rattle.values.specs.Value.{differ, isUnknown}
 use Rattle.checker.proofs.Agreement.{pinFrame-within}
 use Rattle.checker.proofs.VerdictLaws.{Allowed, Follows, allowed-replay, next-step, no-step}
 use Rattle.checker.specs.Checker.{replay}

@@ -11,9 +11,9 @@ use lib.Seq.{getD-set-same, sets}
 use Rattle.circuit.proofs.ClockLaws.{Ordered}
 use Rattle.circuit.proofs.SoundLaws.{facts, sound-size}
 use Rattle.circuit.specs.Fault.{StuckLines, linesOf}
-use Rattle.circuit.specs.Lists.{at}
+use Rattle.values.specs.Lists.{at}
 use Rattle.circuit.specs.Netlist.{Net, netOf, reading, sound}
-use Rattle.circuit.specs.Value.{differ, isUnknown, stuckOr}
+use Rattle.values.specs.Value.{differ, isUnknown, stuckOr}
 use Rattle.circuit.specs.declared.fault.Fault.{Fault}
 use Rattle.checker.proofs.Agreement.{conclusion-agree}
 use Rattle.checker.proofs.HoldLaws.{begin-closed-in, begin-holds-in, held-length, holds-set, place-within}

@@ -9,13 +9,13 @@ use lib.Dec.{eqb}
 use lib.ListN.{length, set}
 use lib.Seq.{sets}
 use borrow.Author.Tests.{eq-eqb, ne-eqb}
-use Rattle.circuit.proofs.ValueLaws.{differ-unknown, known-is, known-low, unknown-high}
+use Rattle.values.proofs.ValueLaws.{differ-unknown, known-is, known-low, unknown-high}
 use Rattle.circuit.specs.Clock.{pinValues}
 use Rattle.circuit.specs.Fault.{StuckLines}
-use Rattle.circuit.specs.Kind.{controlling, gate, ruleOf}
-use Rattle.circuit.specs.Lists.{at}
+use Rattle.values.specs.Kind.{controlling, gate, ruleOf}
+use Rattle.values.specs.Lists.{at}
 use Rattle.circuit.specs.Netlist.{Net}
-use Rattle.circuit.specs.Value.{isUnknown, neg}
+use Rattle.values.specs.Value.{isUnknown, neg}
 use Rattle.checker.specs.Trace.{mark}
 use Rattle.checker.specs.Window.{Entered, conclusion, enterAt, entered, inForce, knownIn, pinConclusion, pinFrame}
 use Rattle.checker.specs.declared.step.Step.{Step}

@@ -3,7 +3,7 @@ use mathlib.Core.Bool.{Bool, not}
 use mathlib.Core.List.{List, [], _∷_}
 use Prim.Native.Nat.{_*_, _+_, ℕ}
 use lib.Seq.{sets}
-use Rattle.circuit.specs.Value.{isUnknown}
+use Rattle.values.specs.Value.{isUnknown}
 use Rattle.checker.specs.Trace.{mark}
 use Rattle.checker.specs.Window.{enterAt, knownIn}
 use Rattle.checker.specs.declared.step.Step.{Step}

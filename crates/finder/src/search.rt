@@ -124,14 +124,14 @@ fn search(
     let split = first_split(netlist, n, fault, b, f, known, marks);
     let c = split.c;
     if c > b {
-        circuit::fill(known, 0);
-        circuit::fill(marks, 0);
+        values::fill(known, 0);
+        values::fill(marks, 0);
         return Finding::None;
     }
     let size = n as usize * (c as usize + f as usize + 1);
     let steps = write_certificate(netlist, n, fault, f, split, &mut known[..size], certificate);
-    circuit::fill(known, 0);
-    circuit::fill(marks, 0);
+    values::fill(known, 0);
+    values::fill(marks, 0);
     Finding::Found(c, HEAD_LENGTH as u32 + STEP_LENGTH as u32 * steps, steps)
 }
 

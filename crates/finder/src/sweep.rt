@@ -6,7 +6,7 @@ ghost use Prim.Native.Nat.{suc, ℕ, _*_, _+_, _<_, _≤_};
 ghost use lib.Dec.{ltb};
 ghost use lib.ListN.{length};
 ghost use Rattle.circuit.specs.Fault.{linesOf};
-ghost use Rattle.circuit.specs.Lists.{at};
+ghost use Rattle.values.specs.Lists.{at};
 ghost use Rattle.circuit.specs.Netlist.{kindOf, lengthOf, netOf, sourceOf};
 ghost use Rattle.checker.specs.Window.{pinFrame, presentBelow};
 ghost use Rattle.finder.specs.Sweeps.{rising, sweep, sweepFrame, tryLine, useRelation};
@@ -14,7 +14,7 @@ ghost use Rattle.finder.specs.Work.{inBytes, tally, work};
 use crate::writer::STEP_LENGTH;
 use crate::writer::put_step;
 use circuit::Fault;
-use circuit::UNKNOWN;
+use values::UNKNOWN;
 
 // How far a branch has come: the steps made, and whether a contradiction was met.
 pub struct Progress {
@@ -49,7 +49,7 @@ fn try_line(
         return progress;
     }
     let place = checker::place_of(n, step.node, step.frame as u16);
-    if circuit::byte_at(known, place) == value {
+    if values::byte_at(known, place) == value {
         return progress;
     }
     put_step(run, STEP_LENGTH * steps, step);
@@ -78,7 +78,7 @@ fn source_keeps(
     }
     let pins_at = checker::pin_frame(circuit::kind_of(netlist, node), frame);
     let source = circuit::source_of(netlist, node, pin);
-    circuit::byte_at(known, checker::place_of(n, source, pins_at as u16)) < UNKNOWN
+    values::byte_at(known, checker::place_of(n, source, pins_at as u16)) < UNKNOWN
 }
 
 // Takes what a relation concludes of the source of a pin. Where the relation is settled, its output's
@@ -184,7 +184,7 @@ fn use_relation(
     }
     let start = progress.steps;
     let done = try_line(netlist, n, fault, c, node, frame, 0, known, run, progress);
-    if circuit::byte_at(known, checker::place_of(n, node, frame as u16)) >= UNKNOWN {
+    if values::byte_at(known, checker::place_of(n, node, frame as u16)) >= UNKNOWN {
         return done;
     }
     try_pins(netlist, n, fault, c, node, frame, start, known, run, done)

@@ -30,8 +30,8 @@ fn put_u16(out: &mut [u8], place: usize, value: u16)
     requires { ⌜ place ≤ 23 ⌝ }
     ensures { λ _. ⌜ now (out .exit) ≡ sets (now (out .entry)) place (bytes₂ value) ⌝ }
 {
-    circuit::store(out, place, (value % 256) as u8);
-    circuit::store(out, place + 1, (value / 256) as u8);
+    values::store(out, place, (value % 256) as u8);
+    values::store(out, place + 1, (value / 256) as u8);
 }
 
 // Puts a number into four bytes, little-endian.
@@ -48,10 +48,10 @@ fn write_step(out: &mut [u8], step: Step)
     ensures { λ _. ⌜ now (out .exit) ≡ sets (now (out .entry)) 0 (stepBytes step) ⌝ }
 {
     put_u16(out, 0, step.node);
-    circuit::store(out, 2, step.frame);
-    circuit::store(out, 3, step.value);
+    values::store(out, 2, step.frame);
+    values::store(out, 3, step.value);
     put_u16(out, 4, step.via);
-    circuit::store(out, 6, step.during);
+    values::store(out, 6, step.during);
 }
 
 // Writes a step at a place of a run. A run without room, as where nothing is to be written yet,
@@ -81,12 +81,12 @@ pub(crate) fn write_head(
     let site = fault.site;
     let stuck = fault.stuck;
     put_u16(certificate, 0, node);
-    circuit::store(certificate, 2, site_byte(site));
-    circuit::store(certificate, 3, stuck);
-    circuit::store(certificate, 4, split.c);
-    circuit::store(certificate, 5, f);
+    values::store(certificate, 2, site_byte(site));
+    values::store(certificate, 3, stuck);
+    values::store(certificate, 4, split.c);
+    values::store(certificate, 5, f);
     put_u16(certificate, 6, split.node);
-    circuit::store(certificate, 8, split.frame);
+    values::store(certificate, 8, split.frame);
     put_u32(certificate, 9, HEAD_LENGTH as u32);
     put_u32(certificate, 13, zero);
     put_u32(certificate, 17, HEAD_LENGTH as u32 + zero);

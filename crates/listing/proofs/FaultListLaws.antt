@@ -9,7 +9,7 @@ use native.Mathlib.Omega.{arith}
 use borrow.Author.Tests.{le-leb, le-ltb, leb-true, lt-ltb, ltb-true}
 use lib.Dec.{leb, ltb}
 use lib.ListN.{length, length-append}
-use Rattle.circuit.proofs.BoolLaws.{and-left, and-right}
+use Rattle.values.proofs.BoolLaws.{and-left, and-right}
 use Rattle.circuit.proofs.NetlistLaws.{pins-length}
 use Rattle.circuit.proofs.SoundLaws.{Facts}
 use Rattle.circuit.specs.Fault.{faultExists, siteExists}

@@ -10,11 +10,11 @@ use borrow.Author.Tests.{le-leb, leb-true, lt-leb, ne-eqb}
 use lib.Dec.{leb, ltb}
 use lib.ListN.{List·getD-append, length, length-append, length-drop}
 use lib.Seq.{drop-append-le}
-use Rattle.circuit.proofs.BoolLaws.{and-left, and-right}
+use Rattle.values.proofs.BoolLaws.{and-left, and-right}
 use Rattle.circuit.proofs.NetlistLaws.{read-refused}
 use Rattle.circuit.proofs.RefusalLaws.{fails-here, fails-later}
 use Rattle.circuit.specs.Answer.{Answer, answered, refusal, refused}
-use Rattle.circuit.specs.Lists.{at}
+use Rattle.values.specs.Lists.{at}
 use Rattle.circuit.specs.Netlist.{netOf, nodeCount, pinCount, reading, sizesAllowed}
 use Rattle.checker.specs.Certificate.{headLength}
 use Rattle.listing.specs.Lines.{refusedLine}

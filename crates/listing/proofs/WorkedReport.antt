@@ -5,8 +5,8 @@ use Prim.Native.Nat.{_+_, suc, zero, ℕ}
 use Rattle.circuit.proofs.Vectors.{p3, p6}
 use Rattle.circuit.specs.Clock.{pinValues}
 use Rattle.circuit.specs.Fault.{linesOf}
-use Rattle.circuit.specs.Kind.{gate, ruleOf}
-use Rattle.circuit.specs.Lists.{any, build, every}
+use Rattle.values.specs.Kind.{gate, ruleOf}
+use Rattle.values.specs.Lists.{any, build, every}
 use Rattle.circuit.specs.Netlist.{countFits, kindKnown, netOf, pairJoined, pairStart, pinsOf, reading, sizesAllowed, sourceAllowed, sourceOf, sourcesAllowed}
 use Rattle.checker.specs.Checker.{closes}
 use Rattle.checker.specs.Trace.{effectDies, gateMark, latchedMark, latchedMarks, marksList, nodeMark, pinMark}

@@ -6,7 +6,7 @@ use Prim.Native.Nat.{_*_, _+_, ℕ}
 use lib.Dec.{leb}
 use lib.ListN.{drop, length}
 use Rattle.circuit.specs.Answer.{Test, answered, refusal, refused}
-use Rattle.circuit.specs.Lists.{at}
+use Rattle.values.specs.Lists.{at}
 use Rattle.circuit.specs.Netlist.{Net, netOf, reading}
 use Rattle.circuit.specs.declared.fault.Fault.{Fault}
 use Rattle.checker.specs.Certificate.{headLength}

@@ -20,11 +20,11 @@ fn put_decimal(out: &mut [u8], place: usize, number: u32) -> usize
     ensures { λ _. ⌜ now (out .exit) ≡ sets (now (out .entry)) place (decimal number) ⌝ }
 {
     if number < 10 {
-        circuit::store(out, place, 48 + number as u8);
+        values::store(out, place, 48 + number as u8);
         return place + 1;
     }
     let end = put_decimal(out, place, number / 10);
-    circuit::store(out, end, 48 + (number % 10) as u8);
+    values::store(out, end, 48 + (number % 10) as u8);
     end + 1
 }
 
@@ -35,7 +35,7 @@ fn put_field(out: &mut [u8], place: usize, number: u32, after: u8) -> usize
     ensures { λ _. ⌜ now (out .exit) ≡ sets (now (out .entry)) place (field number after) ⌝ }
 {
     let end = put_decimal(out, place, number);
-    circuit::store(out, end, after);
+    values::store(out, end, after);
     end + 1
 }
 
@@ -47,7 +47,7 @@ fn put_text(out: &mut [u8], place: usize, text: &[u8]) -> usize
 {
     let mut i: usize = 0;
     while i < text.len() {
-        circuit::store(out, place + i, text[i]);
+        values::store(out, place + i, text[i]);
         i += 1;
     }
     place + text.len()
@@ -69,9 +69,9 @@ pub(crate) fn mark_line(out: &mut [u8], fault: Fault, c: u8, certificate: &[u8])
     ensures { λ _. ⌜ now (out .exit) ≡ sets (now (out .entry)) 0 (markLine fault (split c (splitFrame (now (certificate .entry))) (splitNode (now (certificate .entry))))) ⌝ }
 {
     let site = fault.site;
-    let rest = circuit::tail(certificate, FAULT_LENGTH);
-    let node = circuit::u16_at(rest, 2);
-    let frame = circuit::byte_at(rest, 4);
+    let rest = values::tail(certificate, FAULT_LENGTH);
+    let node = values::u16_at(rest, 2);
+    let frame = values::byte_at(rest, 4);
     let mut end = put_field(out, 0, fault.node as u32, b' ');
     end = put_field(out, end, site_byte(site) as u32, b' ');
     end = put_field(out, end, fault.stuck as u32, b' ');

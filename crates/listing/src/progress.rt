@@ -42,7 +42,7 @@ pub fn begin(input: &[u8]) -> Progress
     ensures { λ r. ⌜ r ≡ begun (now (input .entry)) ⌝ }
     ensures { λ r. ⌜ WritesReport (now (input .entry)) r ⌝ }
 {
-    let fault = first_of(circuit::tail(input, GIVEN_LENGTH), 0);
+    let fault = first_of(values::tail(input, GIVEN_LENGTH), 0);
     Progress {
         stage: Stage::Looking(fault),
         marks: 0,
@@ -114,9 +114,9 @@ fn look_at(
     ensures { λ r. ⌜ turnOutcome r (now (first .exit)) (now (second .exit)) (now (certificate .exit)) (now (line .exit)) ≡ faultTurn fault (turn (now (input .entry)) (progress (Stage.Looking fault) marks faults 0) (now (first .entry)) (now (second .entry)) (now (certificate .entry)) (now (line .entry))) ⌝ }
     ensures { λ r. ⌜ (r .length ≤ lineLength) × (turnsLeft (now (input .entry)) (r .stage) < turnsLeft (now (input .entry)) (Stage.Looking fault)) ⌝ }
 {
-    let netlist = circuit::tail(input, GIVEN_LENGTH);
-    let b = circuit::byte_at(input, 0);
-    let f = circuit::byte_at(input, 1);
+    let netlist = values::tail(input, GIVEN_LENGTH);
+    let b = values::byte_at(input, 0);
+    let f = values::byte_at(input, 1);
     let finding = finder::find(netlist, fault, b, f, first, second, certificate);
     match finding {
         Finding::Found(c, _, _) => {

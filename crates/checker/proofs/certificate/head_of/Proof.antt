@@ -3,9 +3,9 @@ use Rattle.checker.proofs.certificate.head_of.Statement.{statement}
 use Rattle.checker.proofs.certificate.head_of.Tie as tie
 use Rattle.checker.proofs.certificate.head_of.Reads as reads
 use Rattle.checker.proofs.certificate.head_of.Lts as lts
-use Rattle.circuit.proofs.byte_at.Reads as byte-at-reads
-use Rattle.circuit.proofs.tail.Reads as tail-reads
-use Rattle.circuit.proofs.u16_at.Reads as u16-at-reads
+use Rattle.values.proofs.byte_at.Reads as byte-at-reads
+use Rattle.values.proofs.tail.Reads as tail-reads
+use Rattle.values.proofs.u16_at.Reads as u16-at-reads
 use Rattle.circuit.proofs.site_of.Reads as site-of-reads
 
 -- src/certificate.rt:37:33

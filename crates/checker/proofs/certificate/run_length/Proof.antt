@@ -4,7 +4,7 @@ use Rattle.checker.proofs.certificate.run_length.Tie as tie
 use Rattle.checker.proofs.certificate.run_length.Reads as reads
 use Rattle.checker.proofs.certificate.run_length.Lts as lts
 use Rattle.checker.proofs.certificate.u32_at.Reads as u32-at-reads
-use Rattle.circuit.proofs.tail.Reads as tail-reads
+use Rattle.values.proofs.tail.Reads as tail-reads
 
 -- src/certificate.rt:63:12
 tail-requires : tie.Need-tail-requires

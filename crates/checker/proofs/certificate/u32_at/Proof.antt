@@ -7,7 +7,7 @@ use Rattle.checker.proofs.certificate.u32_at.Statement.{statement}
 use Rattle.checker.proofs.certificate.u32_at.Tie as tie
 use Rattle.checker.proofs.certificate.u32_at.Reads as reads
 use Rattle.checker.proofs.certificate.u32_at.Lts as lts
-use Rattle.circuit.proofs.u16_at.Reads as u16-at-reads
+use Rattle.values.proofs.u16_at.Reads as u16-at-reads
 
 -- src/certificate.rt:29:9
 returns : tie.Need-returns

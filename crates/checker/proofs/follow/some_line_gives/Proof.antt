@@ -7,12 +7,12 @@ use mathlib.Core.Bool.{false}
 use lib.ListN.{length}
 use denote.Ref.{now}
 use Rattle.circuit.specs.Netlist.{netOf}
-use Rattle.circuit.specs.Lists.{any}
+use Rattle.values.specs.Lists.{any}
 use Rattle.circuit.specs.Fault.{linesOf}
 use Rattle.checker.specs.Window.{presentBelow, knownIn}
 use Rattle.checker.specs.Checker.{givesStep}
 use Rattle.circuit.proofs.NetlistLaws.{pins-length}
-use Rattle.circuit.proofs.ListLaws.{any-by, any-more, any-none}
+use Rattle.values.proofs.ListLaws.{any-by, any-more, any-none}
 use Rattle.checker.proofs.follow.some_line_gives.Statement.{statement}
 use Rattle.checker.proofs.follow.some_line_gives.Tie as tie
 use Rattle.checker.proofs.follow.some_line_gives.Reads as reads

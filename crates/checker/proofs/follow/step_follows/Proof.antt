@@ -5,7 +5,7 @@ use mathlib.Core.Bool.{true, false}
 use borrow.Author.Tests.{eq-eqb, ne-eqb, not-true, not-false}
 use denote.Ref.{now}
 use Rattle.circuit.specs.Netlist.{netOf}
-use Rattle.circuit.specs.Lists.{at}
+use Rattle.values.specs.Lists.{at}
 use Rattle.circuit.specs.Fault.{linesOf}
 use Rattle.checker.specs.Window.{presentBelow, knownIn}
 use Rattle.checker.proofs.FollowLaws.{follows-by}
@@ -18,7 +18,7 @@ use Rattle.checker.proofs.follow.some_line_gives.Reads as some-line-giv
 use Rattle.checker.proofs.follow.step_within.Reads as step-within-reads
 use Rattle.checker.proofs.relation.in_force.Reads as in-force-reads
 use Rattle.checker.proofs.window.place_of.Reads as place-of-reads
-use Rattle.circuit.proofs.byte_at.Reads as byte-at-reads
+use Rattle.values.proofs.byte_at.Reads as byte-at-reads
 use Rattle.circuit.proofs.node_count.Reads as node-count-reads
 
 -- src/follow.rt:93:9

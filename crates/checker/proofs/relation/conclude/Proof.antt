@@ -3,7 +3,7 @@ use mathlib.Core.Path.{_∙_, ap}
 use lib.ListN.{drop}
 use denote.Ref.{now}
 use Rattle.circuit.specs.Netlist.{netOf}
-use Rattle.circuit.specs.Lists.{at}
+use Rattle.values.specs.Lists.{at}
 use Rattle.circuit.specs.Fault.{linesIn, linesOf}
 use Rattle.checker.specs.Window.{pinFrame, presentBelow}
 use Rattle.checker.proofs.WindowLaws.{conclude-output, conclude-pin}
@@ -17,8 +17,8 @@ use Rattle.checker.proofs.relation.pin_conclusion.Reads as pin-conclusi
 use Rattle.checker.proofs.relation.pin_frame.Reads as pin-frame-reads
 use Rattle.checker.proofs.relation.pin_source.Reads as pin-source-reads
 use Rattle.checker.proofs.window.place_of.Reads as place-of-reads
-use Rattle.circuit.proofs.byte_at.Reads as byte-at-reads
-use Rattle.circuit.proofs.tail.Reads as tail-reads
+use Rattle.values.proofs.byte_at.Reads as byte-at-reads
+use Rattle.values.proofs.tail.Reads as tail-reads
 use Rattle.circuit.proofs.gate_value.Reads as gate-value-reads
 use Rattle.circuit.proofs.kind_of.Reads as kind-of-reads
 use Rattle.circuit.proofs.node_count.Reads as node-count-reads

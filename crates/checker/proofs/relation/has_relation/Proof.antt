@@ -4,7 +4,7 @@ use Rattle.checker.proofs.relation.has_relation.Statement.{statement}
 use Rattle.checker.proofs.relation.has_relation.Tie as tie
 use Rattle.checker.proofs.relation.has_relation.Reads as reads
 use Rattle.checker.proofs.relation.has_relation.Lts as lts
-use Rattle.circuit.proofs.is_given.Reads as is-given-reads
+use Rattle.values.proofs.is_given.Reads as is-given-reads
 
 -- src/relation.rt:34:17
 is-given-requires : tie.Need-is-given-requires

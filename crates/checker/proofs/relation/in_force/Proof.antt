@@ -1,5 +1,5 @@
 use mathlib.Core.Path.{_∙_, ap}
-use Rattle.circuit.proofs.ValueLaws.{known-low, unknown-high}
+use Rattle.values.proofs.ValueLaws.{known-low, unknown-high}
 use Rattle.circuit.specs.Netlist.{netOf}
 use Rattle.circuit.specs.Fault.{StuckLines}
 use Rattle.checker.specs.Window.{held, inForce}

@@ -1,12 +1,12 @@
 use mathlib.Core.Bool.{true, false}
-use Rattle.circuit.specs.Value.{neg}
-use Rattle.circuit.specs.declared.kind.Rule.{Rule}
+use Rattle.values.specs.Value.{neg}
+use Rattle.values.specs.declared.kind.Rule.{Rule}
 use Rattle.checker.proofs.WindowLaws.{tried, against, conclusion-stuck, conclusion-first, conclusion-second, conclusion-none}
 use mathlib.Core.Path.{_≡_, _∙_, ap, sym}
 use denote.Ref.{now}
 use Rattle.circuit.specs.Netlist.{netOf}
-use Rattle.circuit.specs.Kind.{controlling, ruleOf}
-use Rattle.circuit.specs.Lists.{at}
+use Rattle.values.specs.Kind.{controlling, ruleOf}
+use Rattle.values.specs.Lists.{at}
 use Rattle.circuit.specs.Fault.{linesIn}
 use borrow.Author.Needs.{needs}
 use Rattle.checker.proofs.relation.pin_conclusion.Statement.{statement}
@@ -15,10 +15,10 @@ use Rattle.checker.proofs.relation.pin_conclusion.Reads as reads
 use Rattle.checker.proofs.relation.pin_conclusion.Lts as lts
 use Rattle.circuit.proofs.gate_assuming.Reads as gate-assuming-reads
 use Rattle.circuit.proofs.stuck_pin.Reads as stuck-pin-reads
-use Rattle.circuit.proofs.controlling_value.Reads as controlling-value-reads
-use Rattle.circuit.proofs.negation.Reads as negation-reads
-use Rattle.circuit.proofs.rule_of.Reads as rule-of-reads
-use Rattle.circuit.proofs.values_differ.Reads as values-differ-reads
+use Rattle.values.proofs.controlling_value.Reads as controlling-value-reads
+use Rattle.values.proofs.negation.Reads as negation-reads
+use Rattle.values.proofs.rule_of.Reads as rule-of-reads
+use Rattle.values.proofs.values_differ.Reads as values-differ-reads
 use Rattle.circuit.proofs.kind_of.Reads as kind-of-reads
 
 -- src/relation.rt:55:8

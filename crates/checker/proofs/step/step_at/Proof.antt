@@ -3,8 +3,8 @@ use Rattle.checker.proofs.step.step_at.Statement.{statement}
 use Rattle.checker.proofs.step.step_at.Tie as tie
 use Rattle.checker.proofs.step.step_at.Reads as reads
 use Rattle.checker.proofs.step.step_at.Lts as lts
-use Rattle.circuit.proofs.byte_at.Reads as byte-at-reads
-use Rattle.circuit.proofs.u16_at.Reads as u16-at-reads
+use Rattle.values.proofs.byte_at.Reads as byte-at-reads
+use Rattle.values.proofs.u16_at.Reads as u16-at-reads
 
 -- src/step.rt:19:15
 u16-at-requires : tie.Need-u16-at-requires

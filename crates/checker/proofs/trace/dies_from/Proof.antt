@@ -8,7 +8,7 @@ use lib.ListN.{length, take}
 use denote.Ref.{now}
 use borrow.Author.Tests.{not-true, not-false}
 use Rattle.circuit.specs.Netlist.{netOf}
-use Rattle.circuit.specs.Lists.{at, every}
+use Rattle.values.specs.Lists.{at, every}
 use Rattle.circuit.specs.Fault.{linesIn, noneStuck}
 use Rattle.checker.specs.Window.{knownIn}
 use Rattle.checker.specs.Trace.{effectDies, latchedMarks, latchedUntouched}

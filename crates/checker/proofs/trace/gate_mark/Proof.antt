@@ -1,5 +1,5 @@
 use borrow.Author.Tests.{not-true, not-false}
-use Rattle.circuit.specs.Value.{isUnknown}
+use Rattle.values.specs.Value.{isUnknown}
 use Rattle.checker.specs.Trace.{mark}
 use Rattle.checker.proofs.MarkLaws.{gate-touched, gate-untouched, mark-known, mark-unknown}
 use Prim.Native.Nat.{ℕ}
@@ -7,7 +7,7 @@ use mathlib.Core.Path.{_∙_, sym, ap}
 use lib.ListN.{take}
 use denote.Ref.{now}
 use Rattle.circuit.specs.Netlist.{netOf}
-use Rattle.circuit.specs.Lists.{at}
+use Rattle.values.specs.Lists.{at}
 use Rattle.circuit.specs.Fault.{linesIn}
 use borrow.Author.Needs.{needs}
 use Rattle.checker.proofs.trace.gate_mark.Statement.{statement}

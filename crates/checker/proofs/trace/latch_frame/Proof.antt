@@ -4,7 +4,7 @@ use mathlib.Core.Path.{_∙_, ap}
 use lib.ListN.{drop, take}
 use denote.Ref.{now}
 use Rattle.circuit.specs.Netlist.{netOf}
-use Rattle.circuit.specs.Lists.{at}
+use Rattle.values.specs.Lists.{at}
 use Rattle.circuit.specs.Fault.{linesIn}
 use Rattle.checker.proofs.WindowLaws.{frame-values}
 use borrow.Author.Needs.{needs}
@@ -14,7 +14,7 @@ use Rattle.checker.proofs.trace.latch_frame.Reads as reads
 use Rattle.checker.proofs.trace.latch_frame.Lts as lts
 use Rattle.checker.proofs.trace.latch_marks.Reads as latch-marks-reads
 use Rattle.checker.proofs.window.place_of.Reads as place-of-reads
-use Rattle.circuit.proofs.tail.Reads as tail-reads
+use Rattle.values.proofs.tail.Reads as tail-reads
 
 -- src/trace.rt:225:39
 place-of-requires : tie.Need-place-of-requires

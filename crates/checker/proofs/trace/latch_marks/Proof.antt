@@ -4,8 +4,8 @@ use mathlib.Core.List.{List}
 use lib.Seq.{take-set-le}
 use lib.ListN.{length, length-set, take}
 use Rattle.checker.specs.Trace.{latchedMark, latchedMarks}
-use Rattle.circuit.specs.Lists.{at, table}
-use Rattle.circuit.proofs.ListLaws.{Filled, filled-more, filled-table}
+use Rattle.values.specs.Lists.{at, table}
+use Rattle.values.proofs.ListLaws.{Filled, filled-more, filled-table}
 use borrow.Author.Needs.{needs}
 use native.Mathlib.Omega.{arith}
 use denote.Ref.{now}
@@ -17,7 +17,7 @@ use Rattle.checker.proofs.trace.latch_marks.Reads as reads
 use Rattle.checker.proofs.trace.latch_marks.Lts as lts
 use Rattle.checker.proofs.trace.latched_mark.Reads as latched-mark-reads
 use Rattle.checker.proofs.trace.move_down.Reads as move-down-reads
-use Rattle.circuit.proofs.store.Reads as store-reads
+use Rattle.values.proofs.store.Reads as store-reads
 
 abbrev Inv-loop : tie.InvT-loop
 Inv-loop netlist n circuit values marks₀ node₀ marks node = (node ≤ n) × (length marks ≡ length marks₀) × (take n marks ≡ take n marks₀) × Filled (latchedMark (netOf netlist) (linesIn circuit) (at values) (at (take n marks₀))) n node marks

@@ -4,7 +4,7 @@ use mathlib.Core.Path.{_∙_, sym}
 use lib.ListN.{take}
 use denote.Ref.{now}
 use Rattle.circuit.specs.Netlist.{netOf}
-use Rattle.circuit.specs.Lists.{at}
+use Rattle.values.specs.Lists.{at}
 use Rattle.circuit.specs.Fault.{linesIn}
 use borrow.Author.Needs.{needs}
 use Rattle.checker.proofs.trace.latched_mark.Statement.{statement}

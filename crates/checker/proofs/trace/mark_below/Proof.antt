@@ -1,12 +1,12 @@
 use mathlib.Core.Path.{_∙_}
 use denote.Ref.{now}
-use Rattle.circuit.proofs.ListLaws.{take-inside, take-outside}
+use Rattle.values.proofs.ListLaws.{take-inside, take-outside}
 use borrow.Author.Needs.{needs}
 use Rattle.checker.proofs.trace.mark_below.Statement.{statement}
 use Rattle.checker.proofs.trace.mark_below.Tie as tie
 use Rattle.checker.proofs.trace.mark_below.Reads as reads
 use Rattle.checker.proofs.trace.mark_below.Lts as lts
-use Rattle.circuit.proofs.byte_at.Reads as byte-at-reads
+use Rattle.values.proofs.byte_at.Reads as byte-at-reads
 
 -- src/trace.rt:37:9
 byte-at-requires : tie.Need-byte-at-requires

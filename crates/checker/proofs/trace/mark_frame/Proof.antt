@@ -1,5 +1,5 @@
 use lib.Seq.{take-at}
-use Rattle.circuit.proofs.ListLaws.{take-inside}
+use Rattle.values.proofs.ListLaws.{take-inside}
 use Rattle.checker.specs.Trace.{marksList, outputUntouched}
 use Rattle.checker.proofs.MarkLaws.{marks-latched, length-marks}
 use Prim.Native.Nat.{ℕ}
@@ -8,7 +8,7 @@ use mathlib.Core.Path.{_∙_, sym, ap}
 use lib.ListN.{drop, take}
 use denote.Ref.{now}
 use Rattle.circuit.specs.Netlist.{netOf}
-use Rattle.circuit.specs.Lists.{at, every}
+use Rattle.values.specs.Lists.{at, every}
 use Rattle.circuit.specs.Fault.{linesIn}
 use Rattle.checker.proofs.WindowLaws.{frame-values}
 use borrow.Author.Needs.{needs}
@@ -19,7 +19,7 @@ use Rattle.checker.proofs.trace.mark_frame.Lts as lts
 use Rattle.checker.proofs.trace.mark_nodes.Reads as mark-nodes-reads
 use Rattle.checker.proofs.trace.outputs_untouched.Reads as outputs-untouched-reads
 use Rattle.checker.proofs.window.place_of.Reads as place-of-reads
-use Rattle.circuit.proofs.tail.Reads as tail-reads
+use Rattle.values.proofs.tail.Reads as tail-reads
 
 -- src/trace.rt:214:39
 place-of-requires : tie.Need-place-of-requires

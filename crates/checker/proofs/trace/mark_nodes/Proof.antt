@@ -1,5 +1,5 @@
 use mathlib.Core.Path.{_≡_, _∙_, ap, refl}
-use Rattle.circuit.proofs.ListLaws.{build-none, build-store}
+use Rattle.values.proofs.ListLaws.{build-none, build-store}
 use borrow.Author.Needs.{needs}
 use native.Mathlib.Omega.{arith}
 use mathlib.Core.List.{_++_}
@@ -10,14 +10,14 @@ use Prim.Native.Nat.{ℕ, _≤_, _<_, _-_}
 use lib.ListN.{drop, length, length-set}
 use denote.Ref.{now}
 use Rattle.circuit.specs.Netlist.{netOf}
-use Rattle.circuit.specs.Lists.{at, build}
+use Rattle.values.specs.Lists.{at, build}
 use Rattle.circuit.specs.Fault.{linesIn}
 use Rattle.checker.proofs.trace.mark_nodes.Statement.{statement}
 use Rattle.checker.proofs.trace.mark_nodes.Tie as tie
 use Rattle.checker.proofs.trace.mark_nodes.Reads as reads
 use Rattle.checker.proofs.trace.mark_nodes.Lts as lts
 use Rattle.checker.proofs.trace.node_mark.Reads as node-mark-reads
-use Rattle.circuit.proofs.store.Reads as store-reads
+use Rattle.values.proofs.store.Reads as store-reads
 
 abbrev Inv-loop : tie.InvT-loop
 Inv-loop netlist n circuit values marks₀ node₀ marks node = (node ≤ n) × (length marks ≡ length marks₀) × (marks ≡ build (markNext (netOf netlist) (linesIn circuit) (at values) (at marks₀)) node ++ drop node marks₀)

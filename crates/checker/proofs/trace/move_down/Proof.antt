@@ -3,8 +3,8 @@ use native.Mathlib.Nat.{zero-add}
 use mathlib.Core.Path.{_≡_, _∙_, sym, ap, refl, subst}
 use lib.Seq.{getD-drop, getD-set-other}
 use lib.ListN.{drop, length, length-drop, length-set, set}
-use Rattle.circuit.specs.Lists.{at}
-use Rattle.circuit.proofs.ListLaws.{Filled, filled-more, take-same}
+use Rattle.values.specs.Lists.{at}
+use Rattle.values.proofs.ListLaws.{Filled, filled-more, take-same}
 use borrow.Author.Needs.{needs}
 use native.Mathlib.Omega.{arith}
 use denote.Ref.{now}
@@ -12,8 +12,8 @@ use Rattle.checker.proofs.trace.move_down.Statement.{statement}
 use Rattle.checker.proofs.trace.move_down.Tie as tie
 use Rattle.checker.proofs.trace.move_down.Reads as reads
 use Rattle.checker.proofs.trace.move_down.Lts as lts
-use Rattle.circuit.proofs.byte_at.Reads as byte-at-reads
-use Rattle.circuit.proofs.store.Reads as store-reads
+use Rattle.values.proofs.byte_at.Reads as byte-at-reads
+use Rattle.values.proofs.store.Reads as store-reads
 
 abbrev Inv-loop : tie.InvT-loop
 Inv-loop n marks₀ node₀ marks node = (node ≤ n) × (length marks ≡ length marks₀) × Filled (λ j. at marks₀ (n + j)) 0 node marks × ((j : ℕ) → n ≤ j → at marks j ≡ at marks₀ j)

@@ -1,11 +1,11 @@
 use borrow.Author.Tests.{ne-eqb}
-use Rattle.circuit.specs.Kind.{isGiven}
+use Rattle.values.specs.Kind.{isGiven}
 use Rattle.checker.proofs.MarkLaws.{mark-flip-flop, mark-gate, mark-input}
 use mathlib.Core.Path.{_≡_, _∙_, sym, ap}
 use lib.ListN.{take}
 use denote.Ref.{now}
 use Rattle.circuit.specs.Netlist.{kindOf, netOf}
-use Rattle.circuit.specs.Lists.{at}
+use Rattle.values.specs.Lists.{at}
 use Rattle.circuit.specs.Fault.{linesIn}
 use borrow.Author.Needs.{needs}
 use Rattle.checker.proofs.trace.node_mark.Statement.{statement}
@@ -14,9 +14,9 @@ use Rattle.checker.proofs.trace.node_mark.Reads as reads
 use Rattle.checker.proofs.trace.node_mark.Lts as lts
 use Rattle.checker.proofs.trace.gate_mark.Reads as gate-mark-reads
 use Rattle.checker.proofs.trace.site_mark.Reads as site-mark-reads
-use Rattle.circuit.proofs.byte_at.Reads as byte-at-reads
+use Rattle.values.proofs.byte_at.Reads as byte-at-reads
 use Rattle.circuit.proofs.stuck_node.Reads as stuck-node-reads
-use Rattle.circuit.proofs.is_given.Reads as is-given-reads
+use Rattle.values.proofs.is_given.Reads as is-given-reads
 use Rattle.circuit.proofs.kind_of.Reads as kind-of-reads
 
 -- src/trace.rt:108:9

@@ -5,7 +5,7 @@ use Rattle.checker.proofs.trace.output_untouched.Statement.{statement}
 use Rattle.checker.proofs.trace.output_untouched.Tie as tie
 use Rattle.checker.proofs.trace.output_untouched.Reads as reads
 use Rattle.checker.proofs.trace.output_untouched.Lts as lts
-use Rattle.circuit.proofs.byte_at.Reads as byte-at-reads
+use Rattle.values.proofs.byte_at.Reads as byte-at-reads
 use Rattle.circuit.proofs.kind_of.Reads as kind-of-reads
 
 -- src/trace.rt:176:5

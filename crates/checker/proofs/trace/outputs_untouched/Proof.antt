@@ -9,8 +9,8 @@ use denote.Ref.{now}
 use native.Mathlib.Omega.{arith}
 use borrow.Author.Needs.{needs}
 use Rattle.circuit.specs.Netlist.{netOf}
-use Rattle.circuit.specs.Lists.{every}
-use Rattle.circuit.proofs.ListLaws.{every-more, every-fails, every-done}
+use Rattle.values.specs.Lists.{every}
+use Rattle.values.proofs.ListLaws.{every-more, every-fails, every-done}
 use Rattle.checker.proofs.trace.outputs_untouched.Statement.{statement}
 use Rattle.checker.proofs.trace.outputs_untouched.Tie as tie
 use Rattle.checker.proofs.trace.outputs_untouched.Reads as reads

@@ -6,7 +6,7 @@ use Rattle.checker.proofs.trace.pin_mark.Reads as reads
 use Rattle.checker.proofs.trace.pin_mark.Lts as lts
 use Rattle.checker.proofs.trace.mark_below.Reads as mark-below-reads
 use Rattle.checker.proofs.trace.site_mark.Reads as site-mark-reads
-use Rattle.circuit.proofs.byte_at.Reads as byte-at-reads
+use Rattle.values.proofs.byte_at.Reads as byte-at-reads
 use Rattle.circuit.proofs.stuck_pin.Reads as stuck-pin-reads
 use Rattle.circuit.proofs.source_of.Reads as source-of-reads
 

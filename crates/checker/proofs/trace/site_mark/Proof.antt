@@ -1,5 +1,5 @@
 use borrow.Author.Tests.{eq-eqb, ne-eqb}
-use Rattle.circuit.proofs.ValueLaws.{known-low, unknown-high}
+use Rattle.values.proofs.ValueLaws.{known-low, unknown-high}
 use Rattle.checker.proofs.trace.site_mark.Statement.{statement}
 use Rattle.checker.proofs.trace.site_mark.Tie as tie
 use Rattle.checker.proofs.trace.site_mark.Reads as reads

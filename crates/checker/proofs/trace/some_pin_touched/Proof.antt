@@ -8,7 +8,7 @@ use mathlib.Core.Path.{_≡_, _∙_, sym}
 use lib.ListN.{drop, take}
 use denote.Ref.{now}
 use Rattle.circuit.specs.Netlist.{lengthOf, netOf}
-use Rattle.circuit.specs.Lists.{at, indexed}
+use Rattle.values.specs.Lists.{at, indexed}
 use Rattle.circuit.specs.Fault.{linesIn}
 use Rattle.circuit.proofs.PinLaws.{length-by-pin, by-pin-at}
 use Rattle.checker.proofs.trace.some_pin_touched.Statement.{statement}

@@ -14,7 +14,7 @@ use Rattle.checker.proofs.trace.trace_window.Tie as tie
 use Rattle.checker.proofs.trace.trace_window.Reads as reads
 use Rattle.checker.proofs.trace.trace_window.Lts as lts
 use Rattle.checker.proofs.trace.dies_from.Reads as dies-from-reads
-use Rattle.circuit.proofs.fill.Reads as fill-reads
+use Rattle.values.proofs.fill.Reads as fill-reads
 
 -- src/trace.rt:265:5
 fill-requires : tie.Need-fill-requires

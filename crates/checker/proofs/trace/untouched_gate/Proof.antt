@@ -1,5 +1,5 @@
 use Rattle.checker.specs.Trace.{pinMark, untouchedValue}
-use Rattle.circuit.specs.Kind.{functionOf, gate}
+use Rattle.values.specs.Kind.{functionOf, gate}
 use Rattle.circuit.proofs.PinLaws.{function-none, function-more}
 use borrow.Author.Needs.{needs}
 use Prim.Native.Nat.{ℕ, _≤_, _<_, _-_}
@@ -8,7 +8,7 @@ use mathlib.Core.Path.{_≡_, _∙_, sym}
 use lib.ListN.{drop, take}
 use denote.Ref.{now}
 use Rattle.circuit.specs.Netlist.{lengthOf, netOf}
-use Rattle.circuit.specs.Lists.{at, indexed}
+use Rattle.values.specs.Lists.{at, indexed}
 use Rattle.circuit.specs.Fault.{linesIn}
 use Rattle.circuit.proofs.PinLaws.{length-by-pin, by-pin-at}
 use Rattle.checker.proofs.trace.untouched_gate.Statement.{statement}
@@ -16,10 +16,10 @@ use Rattle.checker.proofs.trace.untouched_gate.Tie as tie
 use Rattle.checker.proofs.trace.untouched_gate.Reads as reads
 use Rattle.checker.proofs.trace.untouched_gate.Lts as lts
 use Rattle.checker.proofs.trace.untouched_value.Reads as untouched-value-reads
-use Rattle.circuit.proofs.inverted_if.Reads as inverted-if-reads
-use Rattle.circuit.proofs.join_of.Reads as join-of-reads
-use Rattle.circuit.proofs.rule_of.Reads as rule-of-reads
-use Rattle.circuit.proofs.unit_of.Reads as unit-of-reads
+use Rattle.values.proofs.inverted_if.Reads as inverted-if-reads
+use Rattle.values.proofs.join_of.Reads as join-of-reads
+use Rattle.values.proofs.rule_of.Reads as rule-of-reads
+use Rattle.values.proofs.unit_of.Reads as unit-of-reads
 use Rattle.circuit.proofs.kind_of.Reads as kind-of-reads
 use Rattle.circuit.proofs.length_of.Reads as length-of-reads
 

@@ -5,7 +5,7 @@ use Rattle.checker.proofs.trace.untouched_value.Tie as tie
 use Rattle.checker.proofs.trace.untouched_value.Reads as reads
 use Rattle.checker.proofs.trace.untouched_value.Lts as lts
 use Rattle.checker.proofs.trace.pin_mark.Reads as pin-mark-reads
-use Rattle.circuit.proofs.byte_at.Reads as byte-at-reads
+use Rattle.values.proofs.byte_at.Reads as byte-at-reads
 use Rattle.circuit.proofs.source_of.Reads as source-of-reads
 
 -- src/trace.rt:70:8

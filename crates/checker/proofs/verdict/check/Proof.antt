@@ -5,7 +5,7 @@ use Rattle.checker.specs.Checker.{checkerCall, judged, windowSize}
 use Rattle.checker.specs.Certificate.{framesOf, headOf, splitFrame, splitNode}
 use Rattle.circuit.proofs.SoundLaws.{facts, sound-size}
 use Rattle.circuit.proofs.RefusalLaws.{fails-here, fails-later}
-use Rattle.circuit.proofs.BoolLaws.{and-left, and-right}
+use Rattle.values.proofs.BoolLaws.{and-left, and-right}
 use Rattle.circuit.specs.Fault.{faultExists}
 use Rattle.circuit.specs.Answer.{Outcome, outcome}
 use Rattle.circuit.specs.Netlist.{netOf, reading, sound, readingSays}

@@ -16,7 +16,7 @@ use Rattle.checker.proofs.verdict.judge.Lts as lts
 use Rattle.checker.proofs.certificate.head_of.Reads as head-of-reads
 use Rattle.checker.proofs.verdict.judge_run.Reads as judge-run-reads
 use Rattle.checker.proofs.verdict.verdict_of.Reads as verdict-of-reads
-use Rattle.circuit.proofs.fill.Reads as fill-reads
+use Rattle.values.proofs.fill.Reads as fill-reads
 
 -- src/verdict.rt:115:9
 head-of-requires : tie.Need-head-of-requires

@@ -31,7 +31,7 @@ use Rattle.checker.proofs.verdict.judgement_of.Reads as judgement-of-re
 use Rattle.checker.proofs.window.begin_branch.Reads as begin-branch-reads
 use Rattle.checker.proofs.window.enter_value.Reads as enter-value-reads
 use Rattle.checker.proofs.window.place_of.Reads as place-of-reads
-use Rattle.circuit.proofs.tail.Reads as tail-reads
+use Rattle.values.proofs.tail.Reads as tail-reads
 
 abbrev Inv-loop : tie.InvT-loop
 Inv-loop netlist n head w v run steps known₀ marks fault c closed₀ taken₀ known closed taken = (taken ≤ steps) × (length known ≡ netOf netlist .size * w) × Reached (netOf netlist) (presentBelow c (linesOf fault)) w (stepsIn steps run) (stepsIn (steps - taken) (drop (7 * taken) run)) (begin (netOf netlist) (presentBelow c (linesOf fault)) w (head .node) (head .frame) v) known closed

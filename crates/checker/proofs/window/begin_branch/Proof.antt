@@ -7,9 +7,9 @@ use Rattle.checker.proofs.window.begin_branch.Reads as reads
 use Rattle.checker.proofs.window.begin_branch.Lts as lts
 use Rattle.checker.proofs.window.hold_fault.Reads as hold-fault-reads
 use Rattle.checker.proofs.window.place_of.Reads as place-of-reads
-use Rattle.circuit.proofs.byte_at.Reads as byte-at-reads
-use Rattle.circuit.proofs.store.Reads as store-reads
-use Rattle.circuit.proofs.values_differ.Reads as values-differ-reads
+use Rattle.values.proofs.byte_at.Reads as byte-at-reads
+use Rattle.values.proofs.store.Reads as store-reads
+use Rattle.values.proofs.values_differ.Reads as values-differ-reads
 use Rattle.circuit.proofs.node_count.Reads as node-count-reads
 
 -- src/window.rt:53:9

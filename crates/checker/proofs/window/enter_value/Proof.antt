@@ -1,11 +1,11 @@
-use Rattle.circuit.proofs.ValueLaws.{known-low, unknown-high}
+use Rattle.values.proofs.ValueLaws.{known-low, unknown-high}
 use borrow.Author.Needs.{needs}
 use Rattle.checker.proofs.window.enter_value.Statement.{statement}
 use Rattle.checker.proofs.window.enter_value.Tie as tie
 use Rattle.checker.proofs.window.enter_value.Reads as reads
 use Rattle.checker.proofs.window.enter_value.Lts as lts
-use Rattle.circuit.proofs.byte_at.Reads as byte-at-reads
-use Rattle.circuit.proofs.store.Reads as store-reads
+use Rattle.values.proofs.byte_at.Reads as byte-at-reads
+use Rattle.values.proofs.store.Reads as store-reads
 
 -- src/window.rt:63:8
 byte-at-requires : tie.Need-byte-at-requires

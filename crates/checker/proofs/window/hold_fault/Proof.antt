@@ -13,7 +13,7 @@ use Rattle.checker.proofs.window.hold_fault.Tie as tie
 use Rattle.checker.proofs.window.hold_fault.Reads as reads
 use Rattle.checker.proofs.window.hold_fault.Lts as lts
 use Rattle.checker.proofs.window.hold_frame.Reads as hold-frame-reads
-use Rattle.circuit.proofs.fill.Reads as fill-reads
+use Rattle.values.proofs.fill.Reads as fill-reads
 
 abbrev Inv-loop : tie.InvT-loop
 Inv-loop n fault c known₀ frame₀ known frame = (frame ≤ c) × (known ≡ holdFrames n fault frame known₀)

@@ -5,7 +5,7 @@ use Rattle.checker.proofs.window.hold_frame.Tie as tie
 use Rattle.checker.proofs.window.hold_frame.Reads as reads
 use Rattle.checker.proofs.window.hold_frame.Lts as lts
 use Rattle.checker.proofs.window.place_of.Reads as place-of-reads
-use Rattle.circuit.proofs.store.Reads as store-reads
+use Rattle.values.proofs.store.Reads as store-reads
 use Rattle.circuit.proofs.stuck_node.Reads as stuck-node-reads
 
 -- src/window.rt:25:9

@@ -1,7 +1,7 @@
 use lib.ListN.{drop, set}
 use Rattle.circuit.specs.Netlist.{netOf, lengthOf}
-use Rattle.circuit.specs.Lists.{at}
-use Rattle.circuit.specs.Kind.{functionOf, gate}
+use Rattle.values.specs.Lists.{at}
+use Rattle.values.specs.Kind.{functionOf, gate}
 use Rattle.circuit.specs.Fault.{linesIn}
 use Rattle.circuit.specs.Clock.{pinValues}
 use Rattle.circuit.proofs.PinLaws.{length-assumed, assumed-at, function-none, function-more}
@@ -15,10 +15,10 @@ use Rattle.circuit.proofs.clock.gate_assuming.Tie as tie
 use Rattle.circuit.proofs.clock.gate_assuming.Reads as reads
 use Rattle.circuit.proofs.clock.gate_assuming.Lts as lts
 use Rattle.circuit.proofs.clock.assumed_value.Reads as assumed-value-reads
-use Rattle.circuit.proofs.kind.inverted_if.Reads as inverted-if-reads
-use Rattle.circuit.proofs.kind.join_of.Reads as join-of-reads
-use Rattle.circuit.proofs.kind.rule_of.Reads as rule-of-reads
-use Rattle.circuit.proofs.kind.unit_of.Reads as unit-of-reads
+use Rattle.values.proofs.inverted_if.Reads as inverted-if-reads
+use Rattle.values.proofs.join_of.Reads as join-of-reads
+use Rattle.values.proofs.rule_of.Reads as rule-of-reads
+use Rattle.values.proofs.unit_of.Reads as unit-of-reads
 use Rattle.circuit.proofs.netlist.kind_of.Reads as kind-of-reads
 use Rattle.circuit.proofs.netlist.length_of.Reads as length-of-reads
 use Rattle.circuit.proofs.netlist.pins_place.Reads as pins-place-reads

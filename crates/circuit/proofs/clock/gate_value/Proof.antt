@@ -6,8 +6,8 @@ use lib.Seq.{set-out}
 use lib.ListN.{length}
 use denote.Ref.{now}
 use Rattle.circuit.specs.Netlist.{kindOf, netOf}
-use Rattle.circuit.specs.Lists.{at}
-use Rattle.circuit.specs.Kind.{gate}
+use Rattle.values.specs.Lists.{at}
+use Rattle.values.specs.Kind.{gate}
 use Rattle.circuit.specs.Fault.{linesIn}
 use Rattle.circuit.specs.Clock.{pinValues}
 use Rattle.circuit.proofs.PinLaws.{length-pinValues}

@@ -4,10 +4,10 @@ use lib.ListN.{drop, length, length-set}
 use mathlib.Core.List.{_++_}
 use lib.ListN.{drop, length}
 use Rattle.circuit.specs.Netlist.{netOf}
-use Rattle.circuit.specs.Lists.{at, table}
+use Rattle.values.specs.Lists.{at, table}
 use Rattle.circuit.specs.Fault.{linesIn}
 use Rattle.circuit.specs.Clock.{latchedBy, latchedList}
-use Rattle.circuit.proofs.ListLaws.{build-none, build-store, build-end}
+use Rattle.values.proofs.ListLaws.{build-none, build-store, build-end}
 use denote.Ref.{now}
 use Prim.Native.Nat.{_≤_, _-_, _<_}
 use mathlib.Core.Path.{_≡_, _∙_}
@@ -17,7 +17,7 @@ use Rattle.circuit.proofs.clock.latch.Statement.{statement}
 use Rattle.circuit.proofs.clock.latch.Tie as tie
 use Rattle.circuit.proofs.clock.latch.Reads as reads
 use Rattle.circuit.proofs.clock.latch.Lts as lts
-use Rattle.circuit.proofs.bytes.store.Reads as store-reads
+use Rattle.values.proofs.store.Reads as store-reads
 use Rattle.circuit.proofs.clock.latched_value.Reads as latched-value-reads
 
 abbrev Inv-loop : tie.InvT-loop

@@ -1,8 +1,8 @@
 use Rattle.circuit.specs.Netlist.{netOf, lengthOf, kindOf, pinCount}
-use Rattle.circuit.specs.Kind.{ruleOf}
+use Rattle.values.specs.Kind.{ruleOf}
 use borrow.Author.Tests.{ne-eqb}
 use Rattle.circuit.specs.Netlist.{netOf}
-use Rattle.circuit.specs.Lists.{at}
+use Rattle.values.specs.Lists.{at}
 use Rattle.circuit.specs.Fault.{linesIn}
 use Rattle.circuit.specs.Clock.{latchedBy}
 use Rattle.circuit.proofs.SoundLaws.{facts}

@@ -5,7 +5,7 @@ use Rattle.circuit.proofs.clock.pin_value.Statement.{statement}
 use Rattle.circuit.proofs.clock.pin_value.Tie as tie
 use Rattle.circuit.proofs.clock.pin_value.Reads as reads
 use Rattle.circuit.proofs.clock.pin_value.Lts as lts
-use Rattle.circuit.proofs.bytes.byte_at.Reads as byte-at-reads
+use Rattle.values.proofs.byte_at.Reads as byte-at-reads
 use Rattle.circuit.proofs.fault.stuck_or.Reads as stuck-or-reads
 use Rattle.circuit.proofs.fault.stuck_pin.Reads as stuck-pin-reads
 use Rattle.circuit.proofs.netlist.source_at.Reads as source-at-reads

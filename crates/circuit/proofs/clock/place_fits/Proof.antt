@@ -6,8 +6,8 @@ use Rattle.circuit.proofs.clock.place_fits.Statement.{statement}
 use Rattle.circuit.proofs.clock.place_fits.Tie as tie
 use Rattle.circuit.proofs.clock.place_fits.Reads as reads
 use Rattle.circuit.proofs.clock.place_fits.Lts as lts
-use Rattle.circuit.proofs.bytes.byte_at.Reads as byte-at-reads
-use Rattle.circuit.proofs.kind.is_given.Reads as is-given-reads
+use Rattle.values.proofs.byte_at.Reads as byte-at-reads
+use Rattle.values.proofs.is_given.Reads as is-given-reads
 use Rattle.circuit.proofs.netlist.kind_of.Reads as kind-of-reads
 
 -- src/clock.rt:121:15

@@ -2,8 +2,8 @@ use mathlib.Core.Bool.{true}
 use borrow.Author.Tests.{not-true, not-false}
 use Rattle.circuit.specs.Netlist.{netOf}
 use Rattle.circuit.specs.Clock.{placeFits}
-use Rattle.circuit.specs.Lists.{every}
-use Rattle.circuit.proofs.ListLaws.{every-more, every-fails, every-done}
+use Rattle.values.specs.Lists.{every}
+use Rattle.values.proofs.ListLaws.{every-more, every-fails, every-done}
 use denote.Ref.{now}
 use Prim.Native.Nat.{_≤_, _-_}
 use mathlib.Core.Path.{_≡_, refl, sym, _∙_}

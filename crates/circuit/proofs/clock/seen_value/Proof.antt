@@ -1,5 +1,5 @@
 use Rattle.circuit.specs.Netlist.{netOf}
-use Rattle.circuit.specs.Lists.{at}
+use Rattle.values.specs.Lists.{at}
 use Rattle.circuit.specs.Fault.{linesIn}
 use Rattle.circuit.proofs.ClockLaws.{seenBy-stuck, seenBy-given, seenBy-gate}
 use denote.Ref.{now}
@@ -9,10 +9,10 @@ use Rattle.circuit.proofs.clock.seen_value.Statement.{statement}
 use Rattle.circuit.proofs.clock.seen_value.Tie as tie
 use Rattle.circuit.proofs.clock.seen_value.Reads as reads
 use Rattle.circuit.proofs.clock.seen_value.Lts as lts
-use Rattle.circuit.proofs.bytes.byte_at.Reads as byte-at-reads
+use Rattle.values.proofs.byte_at.Reads as byte-at-reads
 use Rattle.circuit.proofs.clock.gate_value.Reads as gate-value-reads
 use Rattle.circuit.proofs.fault.stuck_node.Reads as stuck-node-reads
-use Rattle.circuit.proofs.kind.is_given.Reads as is-given-reads
+use Rattle.values.proofs.is_given.Reads as is-given-reads
 use Rattle.circuit.proofs.netlist.kind_of.Reads as kind-of-reads
 
 -- src/clock.rt:66:9

@@ -1,12 +1,12 @@
 use mathlib.Core.List.{_++_}
 use lib.ListN.{drop, length, length-set}
 use Rattle.circuit.specs.Netlist.{netOf, pinCount}
-use Rattle.circuit.specs.Lists.{at, build}
+use Rattle.values.specs.Lists.{at, build}
 use Rattle.circuit.specs.Fault.{linesIn}
 use Rattle.circuit.specs.Clock.{seenList}
 use Rattle.circuit.proofs.SoundLaws.{sound-size}
 use Rattle.circuit.proofs.ClockLaws.{seenNext, seen-turn, sound-ordered}
-use Rattle.circuit.proofs.ListLaws.{build-none, build-store, build-end}
+use Rattle.values.proofs.ListLaws.{build-none, build-store, build-end}
 use denote.Ref.{now}
 use Prim.Native.Nat.{_≤_, _-_, _<_}
 use mathlib.Core.Path.{_≡_, sym, _∙_}
@@ -16,7 +16,7 @@ use Rattle.circuit.proofs.clock.settle.Statement.{statement}
 use Rattle.circuit.proofs.clock.settle.Tie as tie
 use Rattle.circuit.proofs.clock.settle.Reads as reads
 use Rattle.circuit.proofs.clock.settle.Lts as lts
-use Rattle.circuit.proofs.bytes.store.Reads as store-reads
+use Rattle.values.proofs.store.Reads as store-reads
 use Rattle.circuit.proofs.clock.seen_value.Reads as seen-value-reads
 
 abbrev Inv-loop : tie.InvT-loop

@@ -1,5 +1,5 @@
 use mathlib.Core.Path.{sym}
-use Rattle.circuit.proofs.ValueLaws.{stuck-known, stuck-free}
+use Rattle.values.proofs.ValueLaws.{stuck-known, stuck-free}
 use Rattle.circuit.proofs.fault.stuck_or.Statement.{statement}
 use Rattle.circuit.proofs.fault.stuck_or.Tie as tie
 use Rattle.circuit.proofs.fault.stuck_or.Reads as reads

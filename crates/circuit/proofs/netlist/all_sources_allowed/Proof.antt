@@ -5,8 +5,8 @@ use Prim.Native.Nat.{_≤_, _-_}
 use mathlib.Core.Bool.{true}
 use mathlib.Core.Path.{_≡_, refl, sym, _∙_}
 use native.Mathlib.Omega.{arith}
-use Rattle.circuit.specs.Lists.{every}
-use Rattle.circuit.proofs.ListLaws.{every-more, every-fails, every-done}
+use Rattle.values.specs.Lists.{every}
+use Rattle.values.proofs.ListLaws.{every-more, every-fails, every-done}
 use Rattle.circuit.proofs.netlist.all_sources_allowed.Statement.{statement}
 use Rattle.circuit.proofs.netlist.all_sources_allowed.Tie as tie
 use Rattle.circuit.proofs.netlist.all_sources_allowed.Reads as reads

@@ -5,7 +5,7 @@ use Rattle.circuit.proofs.netlist.count_fits.Statement.{statement}
 use Rattle.circuit.proofs.netlist.count_fits.Tie as tie
 use Rattle.circuit.proofs.netlist.count_fits.Reads as reads
 use Rattle.circuit.proofs.netlist.count_fits.Lts as lts
-use Rattle.circuit.proofs.kind.rule_of.Reads as rule-of-reads
+use Rattle.values.proofs.rule_of.Reads as rule-of-reads
 use Rattle.circuit.proofs.netlist.kind_of.Reads as kind-of-reads
 use Rattle.circuit.proofs.netlist.length_of.Reads as length-of-reads
 

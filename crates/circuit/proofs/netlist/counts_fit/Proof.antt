@@ -1,4 +1,4 @@
-use Rattle.circuit.proofs.ListLaws.{every-more, every-fails, every-done}
+use Rattle.values.proofs.ListLaws.{every-more, every-fails, every-done}
 use borrow.Author.Tests.{not-true, not-false}
 use Rattle.circuit.specs.Netlist.{countFits}
 use denote.Ref.{now}
@@ -7,8 +7,8 @@ use mathlib.Core.Bool.{true}
 use mathlib.Core.Path.{_≡_, refl, sym, _∙_}
 use native.Mathlib.Omega.{arith}
 use borrow.Author.Needs.{needs}
-use Rattle.circuit.specs.Lists.{every}
-use Rattle.circuit.proofs.ListLaws.{every-more, every-fails}
+use Rattle.values.specs.Lists.{every}
+use Rattle.values.proofs.ListLaws.{every-more, every-fails}
 use Rattle.circuit.proofs.netlist.counts_fit.Statement.{statement}
 use Rattle.circuit.proofs.netlist.counts_fit.Tie as tie
 use Rattle.circuit.proofs.netlist.counts_fit.Reads as reads

@@ -1,6 +1,6 @@
 use mathlib.Core.Path.{_≡_, refl}
 use native.Mathlib.Numerals.{add-one}
-use Rattle.circuit.proofs.ListLaws.{every-more, every-fails, every-done}
+use Rattle.values.proofs.ListLaws.{every-more, every-fails, every-done}
 use borrow.Author.Tests.{eq-eqb, ne-eqb}
 use Rattle.circuit.specs.Netlist.{pairJoined, pairStart}
 use denote.Ref.{now}
@@ -9,8 +9,8 @@ use mathlib.Core.Bool.{true}
 use mathlib.Core.Path.{_≡_, refl}
 use native.Mathlib.Omega.{arith}
 use borrow.Author.Needs.{needs}
-use Rattle.circuit.specs.Lists.{every}
-use Rattle.circuit.proofs.ListLaws.{every-more, every-fails}
+use Rattle.values.specs.Lists.{every}
+use Rattle.values.proofs.ListLaws.{every-more, every-fails}
 use Rattle.circuit.proofs.netlist.pairs_joined.Statement.{statement}
 use Rattle.circuit.proofs.netlist.pairs_joined.Tie as tie
 use Rattle.circuit.proofs.netlist.pairs_joined.Reads as reads

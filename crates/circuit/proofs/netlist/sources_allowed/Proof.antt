@@ -6,8 +6,8 @@ use mathlib.Core.Bool.{true}
 use mathlib.Core.Path.{_≡_, refl, sym, _∙_}
 use native.Mathlib.Omega.{arith}
 use borrow.Author.Needs.{needs}
-use Rattle.circuit.specs.Lists.{every}
-use Rattle.circuit.proofs.ListLaws.{every-more, every-fails, every-done}
+use Rattle.values.specs.Lists.{every}
+use Rattle.values.proofs.ListLaws.{every-more, every-fails, every-done}
 use Rattle.circuit.proofs.netlist.sources_allowed.Statement.{statement}
 use Rattle.circuit.proofs.netlist.sources_allowed.Tie as tie
 use Rattle.circuit.proofs.netlist.sources_allowed.Reads as reads

@@ -17,7 +17,7 @@ use Rattle.finder.proofs.search.search.Statement.{statement}
 use Rattle.finder.proofs.search.search.Tie as tie
 use Rattle.finder.proofs.search.search.Reads as reads
 use Rattle.finder.proofs.search.search.Lts as lts
-use Rattle.circuit.proofs.fill.Reads as fill-reads
+use Rattle.values.proofs.fill.Reads as fill-reads
 use Rattle.finder.proofs.search.first_split.Reads as first-split-reads
 use Rattle.finder.proofs.search.write_certificate.Reads as write-certificate-reads
 

@@ -2,7 +2,7 @@ use Prim.Native.Nat.{ℕ, _+_, _*_, _-_}
 use mathlib.Core.Path.{_∙_, ap, sym}
 use denote.Ref.{now}
 use Rattle.circuit.specs.Netlist.{sourceOf}
-use Rattle.circuit.specs.Lists.{at}
+use Rattle.values.specs.Lists.{at}
 use Rattle.checker.specs.Window.{pinFrame}
 use mathlib.Core.Bool.{Bool, _&&_}
 use lib.Dec.{ltb}
@@ -15,7 +15,7 @@ use Rattle.finder.proofs.sweep.source_keeps.Reads as reads
 use Rattle.finder.proofs.sweep.source_keeps.Lts as lts
 use Rattle.checker.proofs.pin_frame.Reads as pin-frame-reads
 use Rattle.checker.proofs.place_of.Reads as place-of-reads
-use Rattle.circuit.proofs.byte_at.Reads as byte-at-reads
+use Rattle.values.proofs.byte_at.Reads as byte-at-reads
 use Rattle.circuit.proofs.kind_of.Reads as kind-of-reads
 use Rattle.circuit.proofs.source_of.Reads as source-of-reads
 

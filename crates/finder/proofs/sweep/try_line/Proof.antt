@@ -15,7 +15,7 @@ use Rattle.finder.proofs.sweep.try_line.Lts as lts
 use Rattle.checker.proofs.conclude.Reads as conclude-reads
 use Rattle.checker.proofs.enter_value.Reads as enter-value-reads
 use Rattle.checker.proofs.place_of.Reads as place-of-reads
-use Rattle.circuit.proofs.byte_at.Reads as byte-at-reads
+use Rattle.values.proofs.byte_at.Reads as byte-at-reads
 use Rattle.finder.proofs.writer.put_step.Reads as put-step-reads
 
 -- src/sweep.rt:41:9

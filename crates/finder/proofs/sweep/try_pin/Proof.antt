@@ -3,7 +3,7 @@ use native.Mathlib.Omega.{arith}
 use mathlib.Core.Path.{_≡_, _∙_, ap, subst, sym}
 use denote.Ref.{now}
 use Rattle.circuit.specs.Netlist.{netOf, sourceOf}
-use Rattle.circuit.specs.Lists.{at}
+use Rattle.values.specs.Lists.{at}
 use Rattle.circuit.specs.Fault.{linesOf}
 use Rattle.checker.specs.Window.{pinFrame, presentBelow}
 use Rattle.finder.specs.Sweeps.{tryLine}
@@ -11,7 +11,7 @@ use Rattle.finder.specs.Work.{inBytes, work}
 use mathlib.Core.Bool.{_&&_, true}
 use lib.Dec.{ltb}
 use borrow.Author.Tests.{ltb-true}
-use Rattle.circuit.proofs.BoolLaws.{and-left, and-right}
+use Rattle.values.proofs.BoolLaws.{and-left, and-right}
 use Rattle.circuit.proofs.NetlistLaws.{pins-at, pins-length}
 use Rattle.finder.proofs.KnownPinLaws.{known-pin}
 use borrow.Author.Needs.{needs}

@@ -3,7 +3,7 @@ use native.Mathlib.Omega.{arith}
 use mathlib.Core.Path.{_≡_, _∙_, ap, subst, sym}
 use denote.Ref.{now}
 use Rattle.circuit.specs.Netlist.{lengthOf, netOf}
-use Rattle.circuit.specs.Lists.{at}
+use Rattle.values.specs.Lists.{at}
 use Rattle.circuit.specs.Fault.{linesOf}
 use Rattle.checker.specs.Window.{presentBelow}
 use Rattle.finder.specs.Sweeps.{rising, tryLine}
@@ -19,7 +19,7 @@ use Rattle.finder.proofs.sweep.use_relation.Reads as reads
 use Rattle.finder.proofs.sweep.use_relation.Lts as lts
 use Rattle.checker.proofs.in_force.Reads as in-force-reads
 use Rattle.checker.proofs.place_of.Reads as place-of-reads
-use Rattle.circuit.proofs.byte_at.Reads as byte-at-reads
+use Rattle.values.proofs.byte_at.Reads as byte-at-reads
 use Rattle.finder.proofs.sweep.try_line.Reads as try-line-reads
 use Rattle.finder.proofs.sweep.try_pins.Reads as try-pins-reads
 

@@ -6,7 +6,7 @@ use Rattle.finder.proofs.writer.put_u16.Statement.{statement}
 use Rattle.finder.proofs.writer.put_u16.Tie as tie
 use Rattle.finder.proofs.writer.put_u16.Reads as reads
 use Rattle.finder.proofs.writer.put_u16.Lts as lts
-use Rattle.circuit.proofs.store.Reads as store-reads
+use Rattle.values.proofs.store.Reads as store-reads
 
 -- src/writer.rt:33:32
 cast-store : tie.Need-cast-store

@@ -10,7 +10,7 @@ use Rattle.finder.proofs.writer.write_head.Statement.{statement}
 use Rattle.finder.proofs.writer.write_head.Tie as tie
 use Rattle.finder.proofs.writer.write_head.Reads as reads
 use Rattle.finder.proofs.writer.write_head.Lts as lts
-use Rattle.circuit.proofs.store.Reads as store-reads
+use Rattle.values.proofs.store.Reads as store-reads
 use Rattle.finder.proofs.writer.put_u16.Reads as put-u16-reads
 use Rattle.finder.proofs.writer.put_u32.Reads as put-u32-reads
 use Rattle.finder.proofs.writer.site_byte.Reads as site-byte-reads

@@ -3,7 +3,7 @@ use Rattle.finder.proofs.writer.write_step.Statement.{statement}
 use Rattle.finder.proofs.writer.write_step.Tie as tie
 use Rattle.finder.proofs.writer.write_step.Reads as reads
 use Rattle.finder.proofs.writer.write_step.Lts as lts
-use Rattle.circuit.proofs.store.Reads as store-reads
+use Rattle.values.proofs.store.Reads as store-reads
 use Rattle.finder.proofs.writer.put_u16.Reads as put-u16-reads
 
 -- src/writer.rt:50:5

@@ -12,7 +12,7 @@ use borrow.Fn.PlainCycle.{Measures, is, falls, and}
 use Rattle.listing.proofs.lines.put_decimal.Reads as put-decimal
 use Rattle.listing.proofs.lines.put_decimal.Kinds as put-decimal-kinds
 use Rattle.listing.proofs.lines.+put_decimal.Lts-put_decimal as put-decimal-lts
-use Rattle.circuit.proofs.store.Reads as store-reads
+use Rattle.values.proofs.store.Reads as store-reads
 use Rattle.listing.proofs.lines.+put_decimal.{statement}
 use Rattle.listing.proofs.lines.+put_decimal.Tie.{close}
 

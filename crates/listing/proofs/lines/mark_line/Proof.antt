@@ -10,9 +10,9 @@ use Rattle.listing.proofs.lines.mark_line.Statement.{statement}
 use Rattle.listing.proofs.lines.mark_line.Tie as tie
 use Rattle.listing.proofs.lines.mark_line.Reads as reads
 use Rattle.listing.proofs.lines.mark_line.Lts as lts
-use Rattle.circuit.proofs.byte_at.Reads as byte-at-reads
-use Rattle.circuit.proofs.tail.Reads as tail-reads
-use Rattle.circuit.proofs.u16_at.Reads as u16-at-reads
+use Rattle.values.proofs.byte_at.Reads as byte-at-reads
+use Rattle.values.proofs.tail.Reads as tail-reads
+use Rattle.values.proofs.u16_at.Reads as u16-at-reads
 use Rattle.listing.proofs.lines.put_field.Reads as put-field-reads
 use Rattle.listing.proofs.lines.site_byte.Reads as site-byte-reads
 

@@ -10,7 +10,7 @@ use Rattle.listing.proofs.lines.put_field.Statement.{statement}
 use Rattle.listing.proofs.lines.put_field.Tie as tie
 use Rattle.listing.proofs.lines.put_field.Reads as reads
 use Rattle.listing.proofs.lines.put_field.Lts as lts
-use Rattle.circuit.proofs.store.Reads as store-reads
+use Rattle.values.proofs.store.Reads as store-reads
 use Rattle.listing.proofs.lines.put_decimal.Reads as put-decimal-reads
 
 -- src/lines.rt:38:9

@@ -10,7 +10,7 @@ use Rattle.listing.proofs.lines.put_text.Statement.{statement}
 use Rattle.listing.proofs.lines.put_text.Tie as tie
 use Rattle.listing.proofs.lines.put_text.Reads as reads
 use Rattle.listing.proofs.lines.put_text.Lts as lts
-use Rattle.circuit.proofs.store.Reads as store-reads
+use Rattle.values.proofs.store.Reads as store-reads
 
 abbrev Inv-loop : tie.InvT-loop
 Inv-loop out₀ place text i₀ out i = (i ≤ length text) × (length out ≡ length out₀) × (out ≡ sets out₀ place (take i text))

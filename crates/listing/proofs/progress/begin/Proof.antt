@@ -6,7 +6,7 @@ use Rattle.listing.proofs.progress.begin.Statement.{statement}
 use Rattle.listing.proofs.progress.begin.Tie as tie
 use Rattle.listing.proofs.progress.begin.Reads as reads
 use Rattle.listing.proofs.progress.begin.Lts as lts
-use Rattle.circuit.proofs.tail.Reads as tail-reads
+use Rattle.values.proofs.tail.Reads as tail-reads
 use Rattle.listing.proofs.faults.first_of.Reads as first-of-reads
 
 -- src/progress.rt:43:26

@@ -10,8 +10,8 @@ use Rattle.listing.proofs.progress.look_at.Statement.{statement}
 use Rattle.listing.proofs.progress.look_at.Tie as tie
 use Rattle.listing.proofs.progress.look_at.Reads as reads
 use Rattle.listing.proofs.progress.look_at.Lts as lts
-use Rattle.circuit.proofs.byte_at.Reads as byte-at-reads
-use Rattle.circuit.proofs.tail.Reads as tail-reads
+use Rattle.values.proofs.byte_at.Reads as byte-at-reads
+use Rattle.values.proofs.tail.Reads as tail-reads
 use Rattle.finder.proofs.find.Reads as find-reads
 use Rattle.listing.proofs.lines.mark_line.Reads as mark-line-reads
 use Rattle.listing.proofs.lines.refused_line.Reads as refused-line-reads
