@@ -4,9 +4,8 @@ use mathlib.Core.List.{List, [], _++_, _∷_}
 use mathlib.Core.Logic.{_⊎_, inl, inr}
 use mathlib.Core.Path.{_∙_, _≡_, ap, refl, sym}
 use Prim.Native.Nat.{_*_, _+_, _<_, _≤_, suc, zero, ℕ}
-use native.Mathlib.Nat.{le-of-suc-le-suc, mul-comm, not-suc-le-zero}
+use native.Mathlib.Nat.{le-of-suc-le-suc, not-suc-le-zero}
 use native.Mathlib.Omega.{arith}
-use lib.Arith.{digits-lt}
 use lib.Dec.{eqb}
 use lib.ListN.{getD, length, length-append, length-replicate, length-set, replicate, set}
 use borrow.Author.Tests.{eqb-false, eqb-true}
@@ -15,6 +14,7 @@ use Rattle.values.proofs.ValueLaws.{known-low}
 use Rattle.circuit.specs.Fault.{StuckLines}
 use Rattle.circuit.specs.Netlist.{Net}
 use Rattle.values.specs.Value.{differ, isUnknown, stuckOr}
+use Rattle.checker.proofs.HoldLaws.{place-within}
 use Rattle.checker.specs.Trace.{mark}
 use Rattle.checker.specs.Window.{Branch, begin, enter, held, inForce, known}
 use Rattle.checker.specs.declared.step.Step.{Step}
@@ -46,10 +46,6 @@ getD-unknown : (m i : ℕ) → isUnknown (getD (replicate m 2) i 2) ≡ true
 getD-unknown zero i = refl
 getD-unknown (suc m) zero = refl
 getD-unknown (suc m) (suc i) = getD-unknown m i
-
--- a node and a frame of the window have a place among N × W
-pub place-within : (N W n t : ℕ) → n < N → t < W → t * N + n < N * W
-place-within N W n t h g = rw (mul-comm N W) (digits-lt g h)
 
 -- a branch at its end: a contradiction was met, or one more sweep changes nothing
 unfoldable pub Ended : Net → (ℕ → StuckLines) → ℕ → Branch → Type 0
