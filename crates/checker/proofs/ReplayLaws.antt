@@ -3,17 +3,20 @@ use mathlib.Core.Bool.{Bool, _&&_, cond, false, not, true}
 use mathlib.Core.List.{List, [], _++_, _∷_}
 use mathlib.Core.Option.{Option, none, some}
 use mathlib.Core.Path.{_∙_, _≡_, ap, refl, subst, sym}
-use Prim.Native.Nat.{_*_, _+_, _-_, _<_, _≤_, suc, zero, ℕ}
+use Prim.Native.Nat.{_*_, _+_, _-_, _/_, _<_, _≤_, suc, zero, ℕ}
 use native.Mathlib.Omega.{arith}
-use lib.ListN.{drop, getD, length, length-replicate, length-set, set}
-use lib.Seq.{drop-drop}
+use lib.ListN.{drop, getD, length, length-replicate, length-set, set, take}
+use lib.Dec.{leb}
+use lib.Seq.{drop-drop, getD-drop, getD-take}
+use borrow.Author.Tests.{leb-false, leb-true}
 use Rattle.checker.proofs.Agreement.{dies-agree, follows-agree}
 use Rattle.checker.proofs.HoldLaws.{begin-closed, begin-open, holds-set}
 use Rattle.checker.proofs.VerdictLaws.{Follows, follows-says}
-use Rattle.checker.specs.Certificate.{stepOf, stepsIn}
+use Rattle.checker.specs.Certificate.{nextStep, stepOf, stepsIn}
 use Rattle.checker.specs.Checker.{closes, follows, judgement, replay}
 use Rattle.checker.specs.Trace.{effectDies}
 use Rattle.checker.specs.Window.{Branch, Entered, Holds, begin, enter, enterAt, entered, held, known, knownIn, presentBelow}
+use Rattle.checker.specs.declared.reader.NextStep.{NextStep}
 use Rattle.checker.specs.declared.verdict.Judgement.{Judgement}
 use Rattle.checker.specs.declared.step.Step.{Step}
 use Rattle.circuit.proofs.ClockLaws.{Ordered}
@@ -22,17 +25,60 @@ use Rattle.values.specs.Lists.{at}
 use Rattle.circuit.specs.Netlist.{Net}
 use Rattle.values.specs.Value.{differ, isUnknown, stuckOr}
 
--- the steps that are left once i of m have been read: one more, or none
-pub steps-more : (m i : ℕ) (run : List ℕ) → i < m → stepsIn (m - i) (drop (7 * i) run) ≡ stepOf (drop (7 * i) run) ∷ stepsIn (m - (i + 1)) (drop (7 * (i + 1)) run)
-unfolding stepsIn
-steps-more m i run h =
-    let e : m - i ≡ suc (m - (i + 1)) = omega arith in
-    let f : 7 * i + 7 ≡ 7 * (i + 1) = omega arith in
-    ap (λ (k : ℕ). stepsIn k (drop (7 * i) run)) e ∙ ap (λ (r : List ℕ). stepOf (drop (7 * i) run) ∷ stepsIn (m - (i + 1)) r) (drop-drop 7 (7 * i) run ∙ ap (λ (k : ℕ). drop k run) f)
+-- the steps that are left in a run from position i on
+abbrev pub stepsLeft : List ℕ → ℕ → List Step
+stepsLeft run i = stepsIn ((length run - i) / 7) (drop i run)
 
-pub steps-none : (m i : ℕ) (run : List ℕ) → m ≤ i → stepsIn (m - i) (drop (7 * i) run) ≡ []
+steps-more : (run : List ℕ) (i : ℕ) → i + 7 ≤ length run → stepsLeft run i ≡ stepOf (drop i run) ∷ stepsLeft run (i + 7)
 unfolding stepsIn
-steps-none m i run h = let e : m - i ≡ 0 = omega arith in ap (λ (k : ℕ). stepsIn k (drop (7 * i) run)) e
+steps-more run i h =
+    let e : (length run - i) / 7 ≡ suc ((length run - (i + 7)) / 7) = omega arith in
+    ap (λ (k : ℕ). stepsIn k (drop i run)) e ∙ ap (λ (r : List ℕ). stepOf (drop i run) ∷ stepsIn ((length run - (i + 7)) / 7) r) (drop-drop 7 i run)
+
+steps-none : (run : List ℕ) (i : ℕ) → length run < i + 7 → stepsLeft run i ≡ []
+unfolding stepsIn
+steps-none run i h = let e : (length run - i) / 7 ≡ 0 = omega arith in ap (λ (k : ℕ). stepsIn k (drop i run)) e
+
+-- what was handed out: the step and the position, where there is one
+handedStep : Step → NextStep → Step
+handedStep s (NextStep.Read r k) = r
+handedStep s NextStep.End = s
+
+handedPosition : NextStep → ℕ
+handedPosition (NextStep.Read r k) = k
+handedPosition NextStep.End = 0
+
+-- A reader that hands out a step has moved on behind it, and the others are left; one that is at the end of its run has left none.
+pub read-left : (run : List ℕ) (i : ℕ) (s : Step) (k : ℕ) → nextStep run i ≡ NextStep.Read s k → (stepsLeft run i ≡ s ∷ stepsLeft run k) × (i < k) × (k ≤ length run)
+unfolding nextStep handedStep handedPosition
+read-left run i s k e = go (leb (i + 7) (length run)) refl e
+  where
+    go : (b : Bool) → leb (i + 7) (length run) ≡ b → cond b (NextStep.Read (stepOf (drop i run)) (i + 7)) NextStep.End ≡ NextStep.Read s k → (stepsLeft run i ≡ s ∷ stepsLeft run k) × (i < k) × (k ≤ length run)
+    go true b e =
+        let h = leb-true (i + 7) (length run) b in
+        let p : i + 7 ≡ k = ap handedPosition e in
+        (steps-more run i h ∙ (λ j. ap (handedStep s) e j ∷ stepsLeft run (p j)), omega arith, omega arith)
+    go false b e = absurd (let z : _≡_ {A = ℕ} 0 1 = cc in omega arith)
+
+pub end-left : (run : List ℕ) (i : ℕ) → nextStep run i ≡ NextStep.End → stepsLeft run i ≡ []
+unfolding nextStep handedPosition
+end-left run i e = go (leb (i + 7) (length run)) refl e
+  where
+    go : (b : Bool) → leb (i + 7) (length run) ≡ b → cond b (NextStep.Read (stepOf (drop i run)) (i + 7)) NextStep.End ≡ NextStep.End → stepsLeft run i ≡ []
+    go true b e = let z : i + 7 ≡ 0 = ap handedPosition e in absurd (omega arith)
+    go false b e = steps-none run i (leb-false (i + 7) (length run) b)
+
+-- what stands behind a run is none of its steps
+same-steps : (m : ℕ) (bs cs : List ℕ) → ((i : ℕ) → i < 7 * m → at bs i ≡ at cs i) → stepsIn m bs ≡ stepsIn m cs
+unfolding stepsIn
+same-steps zero bs cs h = refl
+same-steps (suc m) bs cs h =
+    let step : stepOf bs ≡ stepOf cs = rw (h 0 (omega arith), h 1 (omega arith), h 2 (omega arith), h 3 (omega arith), h 4 (omega arith), h 5 (omega arith), h 6 (omega arith)) in
+    let rest = same-steps m (drop 7 bs) (drop 7 cs) (λ i q. getD-drop 7 bs i 0 ∙ h (7 + i) (omega arith) ∙ sym (getD-drop 7 cs i 0)) in
+    (λ j. step j ∷ rest j)
+
+pub steps-cut : (m L : ℕ) (bs : List ℕ) → 7 * m ≤ L → stepsIn m (take L bs) ≡ stepsIn m bs
+steps-cut m L bs h = same-steps m (take L bs) bs (λ i q. getD-take L bs i 0 (omega arith))
 
 module _ (net : Net) (S : ℕ → StuckLines) (W : ℕ) where
   -- Of the steps ss, begun with the branch b₀, those in `rest` are left: the branch then, what the slice holds, and whether it is closed.

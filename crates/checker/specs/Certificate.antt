@@ -1,13 +1,14 @@
 -- 01, "Certificate": what a certificate's bytes say. Bytes past the end count as 0.
-use mathlib.Core.Bool.{Bool, _&&_}
+use mathlib.Core.Bool.{Bool, _&&_, cond}
 use mathlib.Core.List.{List, [], _∷_}
 use Prim.Native.Nat.{_%_, _*_, _+_, _/_, suc, zero, ℕ}
-use lib.Dec.{eqb}
+use lib.Dec.{eqb, leb}
 use lib.ListN.{drop, length}
 use Rattle.circuit.specs.Fault.{siteOf}
 use Rattle.values.specs.Lists.{at, u16At}
 use Rattle.circuit.specs.declared.fault.Fault.{Fault}
 use Rattle.checker.specs.declared.certificate.Head.{Head}
+use Rattle.checker.specs.declared.reader.NextStep.{NextStep}
 use Rattle.checker.specs.declared.step.Step.{Step}
 
 -- the number of four bytes, little-endian
@@ -63,6 +64,10 @@ module _ (bs : List ℕ) where
 -- A step: node (2), frame (1), value (1), then node (2) and frame (1) of the relation used. It stands at the start of these bytes.
 abbrev pub stepOf : List ℕ → Step
 stepOf bs = record { node = u16At bs 0; frame = at bs 2; value = at bs 3; via = u16At bs 4; during = at bs 6 }
+
+-- What a run has at a position: a step, with the position behind it, or its end.
+unfoldable pub nextStep : List ℕ → ℕ → NextStep
+nextStep run i = cond (leb (i + 7) (length run)) (NextStep.Read (stepOf (drop i run)) (i + 7)) NextStep.End
 
 -- the first m steps of a run
 unfoldable pub stepsIn : ℕ → List ℕ → List Step

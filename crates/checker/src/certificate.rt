@@ -10,7 +10,7 @@ use circuit::Fault;
 pub const HEAD_LENGTH: usize = 25;
 
 // The length of the fault, which c and all that follows stand behind.
-const FAULT_LENGTH: usize = 4;
+pub const FAULT_LENGTH: usize = 4;
 
 // What stands before the pairs: the fault, c and F, and the split.
 pub struct Head {

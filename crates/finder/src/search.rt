@@ -12,9 +12,9 @@ ghost use Rattle.finder.specs.Marks.{IsMark, NoneCloses};
 use crate::branch::closes;
 use crate::branch::work_branch;
 use crate::split::Split;
-use crate::writer::HEAD_LENGTH;
-use crate::writer::STEP_LENGTH;
 use crate::writer::write_head;
+use checker::HEAD_LENGTH;
+use checker::STEP_LENGTH;
 use circuit::Fault;
 use circuit::Reading;
 

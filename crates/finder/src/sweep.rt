@@ -11,8 +11,8 @@ ghost use Rattle.circuit.specs.Netlist.{kindOf, lengthOf, netOf, sourceOf};
 ghost use Rattle.checker.specs.Window.{pinFrame, presentBelow};
 ghost use Rattle.finder.specs.Sweeps.{rising, sweep, sweepFrame, tryLine, useRelation};
 ghost use Rattle.finder.specs.Work.{inBytes, tally, work};
-use crate::writer::STEP_LENGTH;
 use crate::writer::put_step;
+use checker::STEP_LENGTH;
 use circuit::Fault;
 use values::UNKNOWN;
 

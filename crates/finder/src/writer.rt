@@ -5,15 +5,10 @@ ghost use lib.ListN.{length};
 ghost use lib.Seq.{sets};
 ghost use Rattle.finder.specs.Written.{bytes₂, bytes₄, headBytes, siteByte, stepBytes};
 use crate::split::Split;
+use checker::HEAD_LENGTH;
 use checker::Step;
 use circuit::Fault;
 use circuit::Site;
-
-// How many bytes a step takes.
-pub const STEP_LENGTH: usize = 7;
-
-// The length of what stands before the steps.
-pub const HEAD_LENGTH: usize = 25;
 
 // The node itself is written 255, a pin by its number.
 fn site_byte(site: Site) -> u8

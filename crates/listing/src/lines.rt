@@ -7,11 +7,9 @@ ghost use Rattle.finder.specs.Finder.{split};
 ghost use Rattle.finder.specs.Written.{siteByte};
 ghost use Rattle.checker.specs.Certificate.{splitFrame, splitNode};
 ghost use Rattle.listing.specs.Lines.{decimal, field, markLine, refusedLine, totalLine};
+use checker::FAULT_LENGTH;
 use circuit::Fault;
 use circuit::Site;
-
-// The length of the fault in a certificate, which the split stands behind.
-const FAULT_LENGTH: usize = 4;
 
 // Writes a number in decimal, from a place on, and says where it ends.
 fn put_decimal(out: &mut [u8], place: usize, number: u32) -> usize
