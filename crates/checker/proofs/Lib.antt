@@ -9,6 +9,7 @@ pub mod TraceLaws
 pub mod MarkLaws
 pub mod VerdictLaws
 pub mod ReplayLaws
+pub mod Monotone
 pub mod HybridRuns
 pub mod Model
 pub mod Conclusions

@@ -47,6 +47,15 @@ mark-known v h = sym (ap mark (known-low v h))
 pub mark-unknown : (v : ℕ) → 2 ≤ v → 1 ≡ mark (isUnknown v)
 mark-unknown v h = sym (ap mark (unknown-high v h))
 
+-- a mark of 0 says that the test fails
+pub no-mark : (b : Bool) → mark b ≡ 0 → b ≡ false
+no-mark true e = absurd (omega arith)
+no-mark false e = refl
+
+pub no-mark-not : (b : Bool) → mark (not b) ≡ 0 → b ≡ true
+no-mark-not true e = refl
+no-mark-not false e = absurd (omega arith)
+
 module _ (net : Net) (D : StuckLines) (v ms : ℕ → ℕ) (n : ℕ) where
   abbrev pub pinMarks : List ℕ
   pinMarks = indexed (pinMark net D v ms n) 0 (net .pins n)

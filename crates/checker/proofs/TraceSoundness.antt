@@ -1,6 +1,6 @@
 -- The effect trace is sound: a line that is not touched has the same value with and without the fault. So where the effect dies, outputs
 -- are the same for ever.
-use mathlib.Core.Bool.{Bool, cond, false, false≢true, not, true}
+use mathlib.Core.Bool.{Bool, cond, false, false≢true, true}
 use mathlib.Core.List.{List, _∷_}
 use mathlib.Core.Path.{_∙_, _≡_, ap, fun-ext, refl, sym}
 use Prim.Native.Nat.{_+_, _<_, _≤_, suc, zero, ℕ}
@@ -10,6 +10,7 @@ use lib.Dec.{eqb}
 use borrow.Author.Tests.{eq-eqb, eqb-true}
 use Rattle.checker.proofs.Agreement.{latched-law, marks-law}
 use Rattle.checker.proofs.HybridRuns.{seenIn, seenIn-agree}
+use Rattle.checker.proofs.MarkLaws.{no-mark, no-mark-not}
 use Rattle.checker.specs.Trace.{effectDies, gateMark, latchedMark, latchedMarks, latchedUntouched, mark, marksList, nodeMark, outputUntouched, pinMark, siteMark, someMark, untouchedValue}
 use Rattle.checker.specs.Window.{presentBelow}
 use Rattle.values.proofs.BoolLaws.{and-left, and-right, implied}
@@ -24,14 +25,6 @@ use Rattle.values.specs.Kind.{gate, isFlipFlop, isGiven, isOutput}
 use Rattle.values.specs.Lists.{at, every, indexed}
 use Rattle.circuit.specs.Netlist.{Net}
 use Rattle.values.specs.Value.{isUnknown, stuckOr}
-
-no-mark : (b : Bool) → mark b ≡ 0 → b ≡ false
-no-mark true e = absurd (omega arith)
-no-mark false e = refl
-
-no-mark-not : (b : Bool) → mark (not b) ≡ 0 → b ≡ true
-no-mark-not true e = refl
-no-mark-not false e = absurd (omega arith)
 
 -- an untouched line of value x in the good circuit has it in the faulty one, where its own value would be y
 site-same : (u v m x y : ℕ) → siteMark u v m ≡ 0 → Refines v x → (m ≡ 0 → x ≡ y) → x ≡ stuckOr u y

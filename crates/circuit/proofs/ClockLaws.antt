@@ -7,6 +7,7 @@ use Prim.Native.Nat.{_<_, _≤_, suc, zero, ℕ}
 use native.Mathlib.Omega.{arith}
 use lib.ListN.{drop, length}
 use borrow.Author.Tests.{eqb-true}
+use Rattle.values.proofs.GateLaws.{Refines, RefinesAll, indexed-refines, stuck-mono}
 use Rattle.values.proofs.ListLaws.{Below, below-table, build-agree, build-read, build-rest, build-same, getD-build, indexed-agree, length-build}
 use Rattle.values.proofs.ValueLaws.{stuck-free, stuck-known}
 use Rattle.circuit.proofs.SoundLaws.{Facts, facts}
@@ -69,6 +70,12 @@ module _ (c : Net) (s : StuckLines) where
   pub pinValues-agree : (v w : ℕ → ℕ) (n : ℕ) {b : ℕ} → Below b (c .pins n) → ((m : ℕ) → m < b → v m ≡ w m) → pinValues c s v n ≡ pinValues c s w n
   unfolding pinValues
   pinValues-agree v w n p h = indexed-agree p (λ k m. stuckOr (s .pin n k) (v m)) (λ k m. stuckOr (s .pin n k) (w m)) 0 (λ k m q. ap (stuckOr (s .pin n k)) (h m q))
+
+  -- and where more is known of the sources, more is known of what the pins read
+  pub pinValues-refines : (v w : ℕ → ℕ) (n : ℕ) {b : ℕ} → Below b (c .pins n) → ((m : ℕ) → m < b → Refines (v m) (w m)) → RefinesAll (pinValues c s v n) (pinValues c s w n)
+  unfolding pinValues
+  pinValues-refines v w n p h =
+      indexed-refines p (λ k m. stuckOr (s .pin n k) (v m)) (λ k m. stuckOr (s .pin n k) (w m)) 0 (λ k m q. stuck-mono (s .pin n k) (v m) (w m) (h m q))
 
   -- what a node is seen as depends on the seen values below it alone
   pub seenBy-agree : (g v w : ℕ → ℕ) (n : ℕ) → Ordered c → n < c .size → ((m : ℕ) → m < n → v m ≡ w m) → seenBy c s g v n ≡ seenBy c s g w n

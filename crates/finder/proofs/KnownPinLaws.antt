@@ -10,6 +10,7 @@ use lib.Dec.{eqb}
 use lib.ListN.{getD, length, set}
 use lib.Seq.{set-getD}
 use borrow.Author.Tests.{eqb-true}
+use Rattle.values.proofs.GateLaws.{controlling-low}
 use Rattle.values.proofs.ListLaws.{indexed-at}
 use Rattle.values.proofs.ValueLaws.{differ-same, differ-unknown-first, stuck-free, unknown-is}
 use Rattle.circuit.specs.Clock.{pinValues}
@@ -18,18 +19,10 @@ use Rattle.values.specs.Kind.{controlling, gate, ruleOf}
 use Rattle.values.specs.Lists.{at}
 use Rattle.circuit.specs.Netlist.{Net}
 use Rattle.values.specs.Value.{differ, isUnknown, neg, stuckOr}
-use Rattle.values.specs.declared.kind.Gate.{Gate}
-use Rattle.values.specs.declared.kind.Gate.the-variants.{And, Or, Wire, Xor}
 use Rattle.checker.specs.Window.{conclusion, outputConclusion, pinConclusion, pinFrame}
 use Rattle.finder.proofs.WorkLaws.{line-closed, line-is, line-old, line-silent, made, picked}
 use Rattle.finder.specs.Sweeps.{tryLine}
 use Rattle.finder.specs.Work.{Work, inBytes, takeIn}
-
-controlling-low : (g : Gate) → controlling g < 2
-controlling-low Wire = omega arith
-controlling-low And = omega arith
-controlling-low Or = omega arith
-controlling-low Xor = omega arith
 
 other : (x w : ℕ) → x < 2 → w < 2 → (x ≡ w → ⊥) → x ≡ neg w
 other zero zero h k d = absurd (d refl)

@@ -400,6 +400,12 @@ controls-controlling nand-controls = refl
 controls-controlling or-controls = refl
 controls-controlling nor-controls = refl
 
+pub controlling-low : (g : Gate) → controlling g < 2
+controlling-low Wire = omega arith
+controlling-low And = omega arith
+controlling-low Or = omega arith
+controlling-low Xor = omega arith
+
 -- every pin but pin j has the value c
 abbrev pub OtherPins : ℕ → List ℕ → ℕ → Type 0
 OtherPins c vs j = (i : ℕ) → i < length vs → (i ≡ j → ⊥) → at vs i ≡ c
