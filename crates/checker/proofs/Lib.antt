@@ -10,6 +10,7 @@ pub mod MarkLaws
 pub mod VerdictLaws
 pub mod ReplayLaws
 pub mod Monotone
+pub mod ShutLaws
 pub mod HybridRuns
 pub mod Model
 pub mod Conclusions
