@@ -37,6 +37,14 @@ pinFrame-within k t = go (isFlipFlop k)
     go true = let h : pred t ≤ t = omega arith in h
     go false = let h : t ≤ t = omega arith in h
 
+-- so what holds of both holds of it
+pub pinFrame-either : (k t : ℕ) (P : ℕ → Type 0) → P t → P (pred t) → P (pinFrame k t)
+pinFrame-either k t P a b = go (isFlipFlop k)
+  where
+    go : (q : Bool) → P (cond q (pred t) t)
+    go true = b
+    go false = a
+
 module _ (net : Net) (o : Ordered net) (s : StuckLines) (v w : ℕ → ℕ) (e : SameNodes net v w) where
   pub output-agree : (n : ℕ) → n < net .size → outputConclusion net s v n ≡ outputConclusion net s w n
   unfolding outputConclusion
@@ -53,20 +61,26 @@ module _ (net : Net) (o : Ordered net) (s : StuckLines) (v w : ℕ → ℕ) (e :
         | false ↦ elim (isUnknown (s .pin n k) && differ (gate (net .kind n) (set (r i) k (neg c))) (q i)) [ true ↦ c | false ↦ 2 ]
       ]
 
+-- A relation at frame t reads frame t and the one before: what it concludes depends on what is known there alone.
+pub conclusion-frames : (net : Net) → Ordered net → (S : ℕ → StuckLines) (kn kn′ : ℕ → ℕ → ℕ) (t : ℕ) → SameNodes net (λ m. kn m t) (λ m. kn′ m t)
+    → SameNodes net (λ m. kn m (pred t)) (λ m. kn′ m (pred t))
+    → (n a : ℕ) → n < net .size → conclusion net S kn n t a ≡ conclusion net S kn′ n t a
+unfolding conclusion
+conclusion-frames net o S kn kn′ t e f n zero h =
+    let p : ℕ = pinFrame (net .kind n) t in
+    let r = output-agree net o (S p) (λ m. kn m p) (λ m. kn′ m p) (pinFrame-either (net .kind n) t (λ u. SameNodes net (λ m. kn m u) (λ m. kn′ m u)) e f) n h in
+    λ i. record { node = n; frame = t; value = r i; via = n; during = t }
+conclusion-frames net o S kn kn′ t e f n (suc k) h =
+    let p : ℕ = pinFrame (net .kind n) t in
+    let r = pin-agree net o (S p) (λ m. kn m p) (λ m. kn′ m p) (pinFrame-either (net .kind n) t (λ u. SameNodes net (λ m. kn m u) (λ m. kn′ m u)) e f) n (kn n t) (kn′ n t) k h (e n h) in
+    λ i. record { node = at (net .pins n) k; frame = p; value = r i; via = n; during = t }
+
 -- THE law for conclusions
 pub conclusion-agree : (net : Net) → Ordered net → (S : ℕ → StuckLines) (W : ℕ) (kn kn′ : ℕ → ℕ → ℕ) → SameWindow net W kn kn′
     → (n t a : ℕ) → n < net .size → t < W → conclusion net S kn n t a ≡ conclusion net S kn′ n t a
-unfolding conclusion
-conclusion-agree net o S W kn kn′ e n t zero h l =
-    let p : ℕ = pinFrame (net .kind n) t in
-    let f : pinFrame (net .kind n) t ≤ t = pinFrame-within (net .kind n) t in
-    let r = output-agree net o (S p) (λ m. kn m p) (λ m. kn′ m p) (λ m q. e m p q (omega arith)) n h in
-    λ i. record { node = n; frame = t; value = r i; via = n; during = t }
-conclusion-agree net o S W kn kn′ e n t (suc k) h l =
-    let p : ℕ = pinFrame (net .kind n) t in
-    let f : pinFrame (net .kind n) t ≤ t = pinFrame-within (net .kind n) t in
-    let r = pin-agree net o (S p) (λ m. kn m p) (λ m. kn′ m p) (λ m q. e m p q (omega arith)) n (kn n t) (kn′ n t) k h (e n t h l) in
-    λ i. record { node = at (net .pins n) k; frame = p; value = r i; via = n; during = t }
+conclusion-agree net o S W kn kn′ e n t a h l =
+    let g : pred t < W = omega arith in
+    conclusion-frames net o S kn kn′ t (λ m q. e m t q l) (λ m q. e m (pred t) q g) n a h
 
 -- so a step follows from the one where it follows from the other
 pub follows-agree : (net : Net) → Ordered net → (S : ℕ → StuckLines) (W : ℕ) (kn kn′ : ℕ → ℕ → ℕ) → SameWindow net W kn kn′ → (s : Step) → follows net S W kn s ≡ follows net S W kn′ s

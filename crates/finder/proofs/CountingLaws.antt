@@ -2,7 +2,7 @@
 use mathlib.Core.Bool.{Bool, _||_, false, false≢true, not, true}
 use mathlib.Core.List.{List, [], _++_, _∷_}
 use mathlib.Core.Logic.{_⊎_, inl, inr}
-use mathlib.Core.Path.{_∙_, _≡_, ap, refl, sym}
+use mathlib.Core.Path.{_∙_, _≡_, ap, refl}
 use Prim.Native.Nat.{_*_, _+_, _<_, _≤_, suc, zero, ℕ}
 use native.Mathlib.Nat.{le-of-suc-le-suc, not-suc-le-zero}
 use native.Mathlib.Omega.{arith}
@@ -18,7 +18,8 @@ use Rattle.checker.proofs.HoldLaws.{place-within}
 use Rattle.checker.specs.Trace.{mark}
 use Rattle.checker.specs.Window.{Branch, begin, enter, held, inForce, known}
 use Rattle.checker.specs.declared.step.Step.{Step}
-use Rattle.finder.proofs.ReplayedLaws.{conclusion-within, enter-steps, says-new}
+use Rattle.finder.proofs.ReplayedLaws.{conclusion-within, says-new}
+use Rattle.finder.proofs.StillLaws.{branches-count, sweep-moves}
 use Rattle.finder.proofs.SweepLaws.{sweep-keeps, sweeps-keeps}
 use Rattle.finder.specs.Sweeps.{branches, concluded, saysNothing, sweep, sweeps, implied}
 use Rattle.finder.specs.Work.{unknowns}
@@ -126,33 +127,9 @@ module _ (net : Net) (o : Ordered net) (S : ℕ → StuckLines) (W : ℕ) where
       let r = sweeps-keeps (branches net S) net S W Tally enter-tally (suc (net .size * W)) (begin net S W n t v) (begin-tally n t v h g k) in
       omega (arith, r .total)
 
-  -- a branch has changed only if it has made a step
-  Moved : Branch → Branch → Type 0
-  Moved a b = (a ≡ b) ⊎ (length (a .steps) < length (b .steps))
-
-  enter-moved : (a b : Branch) (n t i : ℕ) → n < net .size → t < W → i < suc (length (net .pins n)) → inForce net S n t ≡ true → Moved a b → b .closed ≡ false
-      → saysNothing (branches net S) net S b (concluded (branches net S) net S n t i b) ≡ false
-      → Moved a (enter net S b (concluded (branches net S) net S n t i b))
-  unfolding Moved
-  enter-moved a b n t i h g l f m q e = inr (go m)
-    where
-      s : Step
-      s = concluded (branches net S) net S n t i b
-
-      more : length (enter net S b s .steps) ≡ suc (length (b .steps))
-      more = ap length (enter-steps net S b s) ∙ omega (arith, length-append (b .steps) (s ∷ []))
-
-      go : (a ≡ b) ⊎ (length (a .steps) < length (b .steps)) → length (a .steps) < length (enter net S b s .steps)
-      go (inl z) = omega (arith, more, ap (λ (x : Branch). length (x .steps)) z)
-      go (inr z) = omega (arith, more)
-
-  sweep-moved : (b : Branch) → Moved b (sweep (branches net S) net S W b)
-  unfolding Moved
-  sweep-moved b = sweep-keeps (branches net S) net S W (Moved b) (enter-moved b) b (inl refl)
-
   -- as many sweeps as there are unknown values, and one more, come to an end
   sweeps-end : (m : ℕ) (a : Branch) → Tally a → unknowns (a .values) < m → Ended net S W (sweeps (branches net S) net S W m a)
-  unfolding sweeps Ended Moved
+  unfolding sweeps Ended
   sweeps-end zero a g h = absurd (not-suc-le-zero h)
   sweeps-end (suc m) a g h = go (b .closed) refl (eqb (length (b .steps)) (length (a .steps))) refl (λ p. sweeps-end m b r p)
     where
@@ -162,12 +139,16 @@ module _ (net : Net) (o : Ordered net) (S : ℕ → StuckLines) (W : ℕ) where
       r : Tally b
       r = sweep-keeps (branches net S) net S W Tally enter-tally a g
 
-      still : length (b .steps) ≡ length (a .steps) → (a ≡ b) ⊎ (length (a .steps) < length (b .steps)) → sweep (branches net S) net S W b ≡ b
-      still e (inl z) = ap (sweep (branches net S) net S W) (sym z)
+      -- a branch has changed only if it has made a step
+      moved : (b ≡ a) ⊎ (length (a .steps) < length (b .steps))
+      moved = sweep-moves (branches net S) net S (branches-count net S) W a
+
+      still : length (b .steps) ≡ length (a .steps) → (b ≡ a) ⊎ (length (a .steps) < length (b .steps)) → sweep (branches net S) net S W b ≡ b
+      still e (inl z) = ap (sweep (branches net S) net S W) z
       still e (inr l) = absurd (omega arith)
 
-      fewer : b .closed ≡ false → (length (b .steps) ≡ length (a .steps) → ⊥) → (a ≡ b) ⊎ (length (a .steps) < length (b .steps)) → unknowns (b .values) < m
-      fewer q e (inl z) = absurd (e (ap (λ (x : Branch). length (x .steps)) (sym z)))
+      fewer : b .closed ≡ false → (length (b .steps) ≡ length (a .steps) → ⊥) → (b ≡ a) ⊎ (length (a .steps) < length (b .steps)) → unknowns (b .values) < m
+      fewer q e (inl z) = absurd (e (ap (λ (x : Branch). length (x .steps)) z))
       fewer q e (inr l) =
           let now : length (b .steps) + unknowns (b .values) + 1 ≡ net .size * W = rw q at (r .total) in
           less (a .closed) now (g .total)
@@ -181,8 +162,8 @@ module _ (net : Net) (o : Ordered net) (S : ℕ → StuckLines) (W : ℕ) where
           → (unknowns (b .values) < m → Ended net S W (sweeps (branches net S) net S W m b))
           → Ended net S W (elim (x || y) [ true ↦ b | false ↦ sweeps (branches net S) net S W m b ])
       go true q y e k = inl q
-      go false q true e k = inr (still (eqb-true _ _ e) (sweep-moved a))
-      go false q false e k = k (fewer q (eqb-false _ _ e) (sweep-moved a))
+      go false q true e k = inr (still (eqb-true _ _ e) moved)
+      go false q false e k = k (fewer q (eqb-false _ _ e) moved)
 
   -- so the N × W + 1 sweeps of a branch that is worked out are never too few
   pub implied-ends : (n t v : ℕ) → n < net .size → t < W → v < 2 → Ended net S W (implied net S W n t v)

@@ -20,6 +20,7 @@ use Rattle.values.specs.Lists.{at}
 use Rattle.circuit.specs.Netlist.{Net}
 use Rattle.values.specs.Value.{differ, isUnknown, neg, stuckOr}
 use Rattle.checker.specs.Window.{conclusion, outputConclusion, pinConclusion, pinFrame}
+use Rattle.finder.proofs.StillLaws.{bytes-count, line-moves, line-unmoved}
 use Rattle.finder.proofs.WorkLaws.{line-closed, line-is, line-old, line-silent, made, picked}
 use Rattle.finder.specs.Sweeps.{tryLine}
 use Rattle.finder.specs.Work.{Work, inBytes, takeIn}
@@ -90,27 +91,14 @@ module _ (net : Net) (s : StuckLines) (v : ℕ → ℕ) (n o k : ℕ) (hk : k < 
       by-free false e = inl (omega arith)
 
 module _ (net : Net) (S : ℕ → StuckLines) where
-  -- a line is a step, or changes nothing
-  line-moved : (n t i : ℕ) (w : Work) → (tryLine (inBytes (net .size)) net S n t i w ≡ w) ⊎ (tryLine (inBytes (net .size)) net S n t i w .steps ≡ w .steps + 1)
-  unfolding picked takeIn
-  line-moved n t i w = go (w .closed || (isUnknown (made net S n t i w .value) || eqb (at (w .known) (made net S n t i w .frame * net .size + made net S n t i w .node)) (made net S n t i w .value))) refl
-    where
-      go : (b : Bool) → (w .closed || (isUnknown (made net S n t i w .value) || eqb (at (w .known) (made net S n t i w .frame * net .size + made net S n t i w .node)) (made net S n t i w .value))) ≡ b
-          → (tryLine (inBytes (net .size)) net S n t i w ≡ w) ⊎ (tryLine (inBytes (net .size)) net S n t i w .steps ≡ w .steps + 1)
-      go true e = inl (line-is net S n t i w true e)
-      go false e = inr (ap (λ (y : Work). y .steps) (line-is net S n t i w false e))
-
-  pub line-still : (n t i : ℕ) (w : Work) → tryLine (inBytes (net .size)) net S n t i w .steps ≡ w .steps → tryLine (inBytes (net .size)) net S n t i w ≡ w
-  line-still n t i w e = go (line-moved n t i w)
-    where
-      go : (tryLine (inBytes (net .size)) net S n t i w ≡ w) ⊎ (tryLine (inBytes (net .size)) net S n t i w .steps ≡ w .steps + 1) → tryLine (inBytes (net .size)) net S n t i w ≡ w
-      go (inl q) = q
-      go (inr q) = absurd (omega arith)
+  -- a line that is no step changes nothing
+  line-still : (n t i : ℕ) (w : Work) → tryLine (inBytes (net .size)) net S n t i w .steps ≡ w .steps → tryLine (inBytes (net .size)) net S n t i w ≡ w
+  line-still = line-unmoved (inBytes (net .size)) net S (bytes-count (net .size))
 
   pub line-grows : (n t i : ℕ) (w : Work) → w .steps ≤ tryLine (inBytes (net .size)) net S n t i w .steps
-  line-grows n t i w = go (line-moved n t i w)
+  line-grows n t i w = go (line-moves (inBytes (net .size)) net S (bytes-count (net .size)) n t i w)
     where
-      go : (tryLine (inBytes (net .size)) net S n t i w ≡ w) ⊎ (tryLine (inBytes (net .size)) net S n t i w .steps ≡ w .steps + 1) → w .steps ≤ tryLine (inBytes (net .size)) net S n t i w .steps
+      go : (tryLine (inBytes (net .size)) net S n t i w ≡ w) ⊎ (w .steps < tryLine (inBytes (net .size)) net S n t i w .steps) → w .steps ≤ tryLine (inBytes (net .size)) net S n t i w .steps
       go (inl q) = let z : tryLine (inBytes (net .size)) net S n t i w .steps ≡ w .steps = ap (λ (y : Work). y .steps) q in omega arith
       go (inr q) = omega arith
 

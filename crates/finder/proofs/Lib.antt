@@ -3,6 +3,7 @@ pub mod RisingLaws
 pub mod SetsLaws
 pub mod SweepLaws
 pub mod ReplayedLaws
+pub mod StillLaws
 pub mod WrittenLaws
 pub mod CountingLaws
 pub mod FirstLaws

@@ -1,7 +1,9 @@
 -- What holds of anything that is done for 0, 1, .., n - 1 in turn.
+use mathlib.Core.Logic.{_⊎_, inl, inr}
 use mathlib.Core.Path.{_∙_, _≡_, ap, refl, subst, sym}
 use Prim.Native.Nat.{_+_, _<_, _≤_, suc, zero, ℕ}
 use native.Mathlib.Decide.{decLt}
+use native.Mathlib.Nat.{not-suc-le-zero}
 use native.Mathlib.Numerals.{add-one}
 use native.Mathlib.Omega.{arith}
 use Rattle.finder.specs.Sweeps.{rising}
@@ -33,6 +35,51 @@ module _ {A : Type 0} (f : ℕ → A → A) where
   unfolding rising
   rising-first zero a = refl
   rising-first (suc n) a = ap (f (suc n)) (rising-first n a)
+
+-- Where each of them either changes nothing or counts up.
+module _ {A : Type 0} (f : ℕ → A → A) (made : A → ℕ) (moves : (i : ℕ) (a : A) → (f i a ≡ a) ⊎ (made a < made (f i a))) where
+  -- so do all together
+  pub rising-moves : (n : ℕ) (a : A) → (rising f n a ≡ a) ⊎ (made a < made (rising f n a))
+  unfolding rising
+  rising-moves zero a = inl refl
+  rising-moves (suc n) a = go (rising-moves n a) (moves n (rising f n a))
+    where
+      go : (rising f n a ≡ a) ⊎ (made a < made (rising f n a)) → (f n (rising f n a) ≡ rising f n a) ⊎ (made (rising f n a) < made (f n (rising f n a)))
+          → (f n (rising f n a) ≡ a) ⊎ (made a < made (f n (rising f n a)))
+      go (inl p) (inl q) = inl (q ∙ p)
+      go (inl p) (inr q) = inr (subst (λ (x : A). made x < made (f n (rising f n a))) p q)
+      go (inr p) (inl q) = inr (subst (λ (x : A). made a < made x) (sym q) p)
+      go (inr p) (inr q) = inr (omega arith)
+
+  -- where nothing was counted nothing has changed,
+  pub rising-unmoved : (n : ℕ) (a : A) → made (rising f n a) ≡ made a → rising f n a ≡ a
+  rising-unmoved n a e = go (rising-moves n a)
+    where
+      go : (rising f n a ≡ a) ⊎ (made a < made (rising f n a)) → rising f n a ≡ a
+      go (inl p) = p
+      go (inr p) = absurd (omega arith)
+
+  -- and no one of them changes anything
+  pub rising-still : (n : ℕ) (a : A) → rising f n a ≡ a → (i : ℕ) → i < n → f i a ≡ a
+  unfolding rising
+  rising-still zero a e i h = absurd (not-suc-le-zero h)
+  rising-still (suc n) a e i h = go (rising-moves n a) (moves n (rising f n a)) (decLt i n) (λ p l. rising-still n a p i l)
+    where
+      last : made (f n (rising f n a)) ≡ made a
+      last = ap made e
+
+      go : (rising f n a ≡ a) ⊎ (made a < made (rising f n a)) → (f n (rising f n a) ≡ rising f n a) ⊎ (made (rising f n a) < made (f n (rising f n a)))
+          → Dec (i < n) → (rising f n a ≡ a → i < n → f i a ≡ a) → f i a ≡ a
+      go (inl p) m (yes l) k = k p l
+      go (inl p) m (no l) k = let z : i ≡ n = omega arith in (λ j. f (z j) (sym p j)) ∙ e
+      go (inr p) (inl q) d k = absurd (omega (arith, last, ap made q))
+      go (inr p) (inr q) d k = absurd (omega (arith, last))
+
+-- where no one of them changes anything, nothing changes
+pub rising-idle : {A : Type 0} (f : ℕ → A → A) (n : ℕ) (a : A) → ((i : ℕ) → i < n → f i a ≡ a) → rising f n a ≡ a
+unfolding rising
+rising-idle f zero a k = refl
+rising-idle f (suc n) a k = ap (f n) (rising-idle f n a (λ i h. k i (omega arith))) ∙ k n (omega arith)
 
 -- what is done to two things in step keeps a relation between them
 pub rising-together : {A B : Type 0} (f : ℕ → A → A) (g : ℕ → B → B) (R : A → B → Type 0) (n : ℕ) → ((i : ℕ) → i < n → (a : A) (b : B) → R a b → R (f i a) (g i b))
