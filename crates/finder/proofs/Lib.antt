@@ -11,6 +11,7 @@ pub mod FoundLaws
 pub mod WorkLaws
 pub mod KnownPinLaws
 pub mod StandsLaws
+pub mod OpenSets
 pub mod BenchCircuits
 pub mod WalkLaws
 pub mod PartLaws
