@@ -12,6 +12,7 @@ pub mod WorkLaws
 pub mod KnownPinLaws
 pub mod StandsLaws
 pub mod OpenSets
+pub mod NotesLaws
 pub mod BenchCircuits
 pub mod WalkLaws
 pub mod PartLaws

@@ -1,14 +1,21 @@
 -- The sweeps on lent bytes: what the contracts of the functions beneath `find` speak of. Nothing of what the finder answers rests on it.
-use mathlib.Core.Bool.{Bool, not}
+use mathlib.Core.Bool.{Bool, false, not}
 use mathlib.Core.List.{List, [], _∷_}
-use Prim.Native.Nat.{_*_, _+_, ℕ}
+use mathlib.Core.Logic.{_⊎_}
+use mathlib.Core.Path.{_≡_}
+use Prim.Native.Nat.{_*_, _+_, _<_, ℕ}
 use lib.Seq.{sets}
+use Rattle.values.specs.Lists.{at}
 use Rattle.values.specs.Value.{isUnknown}
+use Rattle.circuit.specs.Netlist.{Net}
+use Rattle.circuit.specs.declared.fault.Fault.{Fault}
 use Rattle.checker.specs.Trace.{mark}
 use Rattle.checker.specs.Window.{enterAt, knownIn}
 use Rattle.checker.specs.declared.step.Step.{Step}
+use Rattle.finder.specs.Finder.{splitCloses}
 use Rattle.finder.specs.Sweeps.{BranchState}
 use Rattle.finder.specs.Written.{stepBytes}
+use Rattle.finder.specs.declared.split.Split.{Split}
 
 -- a branch in lent bytes: what is known, the run of its steps as far as the slice has room, how many they are, and whether it is closed
 pub record Work : Type 0 where
@@ -37,3 +44,12 @@ unknowns (v ∷ vs) = mark (isUnknown v) + unknowns vs
 -- the steps made and those that may come: a place for each unknown value, and one more while the branch is open
 unfoldable pub tally : Work → ℕ
 tally w = w .steps + unknowns (w .known) + mark (not (w .closed))
+
+-- A place of the notes after a branch of the window of c was noted: as it was, or c + 1 where the branch knows a value.
+unfoldable pub Noted : List ℕ → ℕ → List ℕ → List ℕ → ℕ → Type 0
+Noted known c before after place = (at after place ≡ at before place) ⊎ ((at after place ≡ c + 1) × (at known place < 2))
+
+-- what the notes say: a split whose place holds its c + 1 does not close
+unfoldable pub NotedStayOpen : Net → Fault → ℕ → List ℕ → Type 0
+NotedStayOpen net f F noted =
+    (s : Split) → s .frame < s .c + F + 1 → s .node < net .size → at noted (s .frame * net .size + s .node) ≡ s .c + 1 → splitCloses net f F s ≡ false

@@ -1,7 +1,7 @@
 // A branch of a split: worked out by sweeps, and whether it closes.
 ghost use mathlib.Core.Path.{_≡_};
 ghost use mathlib.Core.Bool.{true};
-ghost use Prim.Native.Nat.{_*_, _+_, _<_, _≤_};
+ghost use Prim.Native.Nat.{ℕ, _*_, _+_, _<_, _≤_};
 ghost use lib.ListN.{length};
 ghost use lib.Seq.{sets};
 ghost use Rattle.circuit.specs.Fault.{faultExists, linesOf};
@@ -9,11 +9,13 @@ ghost use Rattle.circuit.specs.Netlist.{netOf, pinCount, reading, sound};
 ghost use Rattle.checker.specs.Checker.{closes};
 ghost use Rattle.checker.specs.Window.{Holds, presentBelow};
 ghost use Rattle.finder.specs.Finder.{branchOf, splitCloses};
+ghost use Rattle.finder.specs.Work.{Noted, NotedStayOpen};
 ghost use Rattle.finder.specs.Written.{runBytes};
 use crate::split::Split;
 use crate::sweep::Progress;
 use crate::sweep::sweep_window;
 use circuit::Fault;
+use values::UNKNOWN;
 
 // Works out the branch of a split that has the value v, and writes its steps into the run, as far
 // as that has room. A sweep without a step ends it, and so does a contradiction.
@@ -54,7 +56,22 @@ pub(crate) fn work_branch(
     done
 }
 
-// Whether branch v of a split closes: by contradiction, or because the fault's effect dies.
+// Notes each value that a branch of the window of c knows, by c + 1 at its place.
+fn note_known(known: &[u8], c: u8, noted: &mut [u8])
+    requires { ⌜ c < 15 ⌝ }
+    ensures { λ _. ⌜ ((place : ℕ) → Noted (now (known .entry)) c (now (noted .entry)) (now (noted .exit)) place) ⌝ }
+{
+    let mut place: usize = 0;
+    while place < known.len() {
+        if values::byte_at(known, place) < UNKNOWN {
+            values::store(noted, place, c + 1);
+        }
+        place += 1;
+    }
+}
+
+// Whether branch v of a split closes: by contradiction, or because the fault's effect dies. Where it
+// stays open, so does each value that it knows, as a split, and they are noted.
 fn branch_closes(
     netlist: &[u8],
     n: u16,
@@ -64,18 +81,25 @@ fn branch_closes(
     v: u8,
     known: &mut [u8],
     marks: &mut [u8],
+    noted: &mut [u8],
 ) -> bool
     requires { ⌜ reading (now netlist) ≡ sound n (pinCount (now netlist)) ⌝ }
     requires { ⌜ faultExists (netOf (now netlist)) fault ≡ true ⌝ }
     requires { ⌜ (split .c + f + 1 ≤ 15) × (split .frame < split .c + f + 1) × (split .node < n) × (v < 2) ⌝ }
     requires { ⌜ (length (now known) ≡ n * (split .c + f + 1)) × (length (now marks) ≡ n * (split .c + f + 1)) ⌝ }
+    requires { ⌜ NotedStayOpen (netOf (now netlist)) fault f (now noted) ⌝ }
     ensures { λ r. ⌜ r ≡ closes (netOf (now (netlist .entry))) (linesOf fault) (split .c) f (branchOf (netOf (now (netlist .entry))) fault f split v) ⌝ }
+    ensures { λ _. ⌜ NotedStayOpen (netOf (now (netlist .entry))) fault f (now (noted .exit)) ⌝ }
 {
     let done = work_branch(netlist, n, fault, f, split, v, known, &mut marks[..0]);
     if done.closed {
         return true;
     }
-    checker::effect_dies(netlist, fault, split.c, f, known, marks)
+    if checker::effect_dies(netlist, fault, split.c, f, known, marks) {
+        return true;
+    }
+    note_known(known, split.c, noted);
+    false
 }
 
 // Whether both branches of a split close, in slices of the window's size. Branch 1 is worked out only
@@ -88,18 +112,21 @@ fn both_close(
     split: Split,
     known: &mut [u8],
     marks: &mut [u8],
+    noted: &mut [u8],
 ) -> bool
     requires { ⌜ reading (now netlist) ≡ sound n (pinCount (now netlist)) ⌝ }
     requires { ⌜ faultExists (netOf (now netlist)) fault ≡ true ⌝ }
     requires { ⌜ (split .c + f + 1 ≤ 15) × (split .frame < split .c + f + 1) × (split .node < n) ⌝ }
     requires { ⌜ (length (now known) ≡ n * (split .c + f + 1)) × (length (now marks) ≡ n * (split .c + f + 1)) ⌝ }
+    requires { ⌜ NotedStayOpen (netOf (now netlist)) fault f (now noted) ⌝ }
     ensures { λ r. ⌜ r ≡ splitCloses (netOf (now (netlist .entry))) fault f split ⌝ }
+    ensures { λ _. ⌜ NotedStayOpen (netOf (now (netlist .entry))) fault f (now (noted .exit)) ⌝ }
 {
-    branch_closes(netlist, n, fault, f, split, 0, known, marks)
-        && branch_closes(netlist, n, fault, f, split, 1, known, marks)
+    branch_closes(netlist, n, fault, f, split, 0, known, marks, noted)
+        && branch_closes(netlist, n, fault, f, split, 1, known, marks, noted)
 }
 
-// Whether a split closes, for its c.
+// Whether a split closes, for its c. One that is noted for this c does not, and nothing is worked out.
 pub(crate) fn closes(
     netlist: &[u8],
     n: u16,
@@ -108,14 +135,22 @@ pub(crate) fn closes(
     split: Split,
     known: &mut [u8],
     marks: &mut [u8],
+    noted: &mut [u8],
 ) -> bool
     requires { ⌜ reading (now netlist) ≡ sound n (pinCount (now netlist)) ⌝ }
     requires { ⌜ faultExists (netOf (now netlist)) fault ≡ true ⌝ }
     requires { ⌜ (split .c + f + 1 ≤ 15) × (split .frame < split .c + f + 1) × (split .node < n) ⌝ }
     requires { ⌜ (n * (split .c + f + 1) ≤ length (now known)) × (n * (split .c + f + 1) ≤ length (now marks)) ⌝ }
+    requires { ⌜ NotedStayOpen (netOf (now netlist)) fault f (now noted) ⌝ }
     ensures { λ r. ⌜ r ≡ splitCloses (netOf (now (netlist .entry))) fault f split ⌝ }
+    ensures { λ _. ⌜ NotedStayOpen (netOf (now (netlist .entry))) fault f (now (noted .exit)) ⌝ }
 {
-    let size = n as usize * (split.c as usize + f as usize + 1);
+    let c = split.c;
+    let place = checker::place_of(n, split.node, split.frame as u16);
+    if values::byte_at(noted, place) == c + 1 {
+        return false;
+    }
+    let size = n as usize * (c as usize + f as usize + 1);
     both_close(
         netlist,
         n,
@@ -124,5 +159,6 @@ pub(crate) fn closes(
         split,
         &mut known[..size],
         &mut marks[..size],
+        noted,
     )
 }

@@ -9,6 +9,7 @@ ghost use Rattle.circuit.specs.Fault.{faultExists};
 ghost use Rattle.circuit.specs.Netlist.{netOf, pinCount, reading, sound};
 ghost use Rattle.finder.specs.Finder.{answerFor, bytesFor, certificateFor, finderCall, finderOutcome, finding, findingSays, firstSplit, found, nothingFound, stepCount, written};
 ghost use Rattle.finder.specs.Marks.{IsMark, NoneCloses};
+ghost use Rattle.finder.specs.Work.{NotedStayOpen};
 use crate::branch::closes;
 use crate::branch::work_branch;
 use crate::split::Split;
@@ -17,6 +18,10 @@ use checker::HEAD_LENGTH;
 use checker::STEP_LENGTH;
 use circuit::Fault;
 use circuit::Reading;
+
+// Room to note splits that stay open, by their places. Those of the last frame of the longest window
+// of the greatest circuits have none, and are worked out.
+const NOTED_LENGTH: usize = 57344;
 
 // The finder's answer: found with c, the certificate's length and its step count, or none, or the
 // refusal's number.
@@ -36,11 +41,13 @@ fn first_split(
     f: u8,
     known: &mut [u8],
     marks: &mut [u8],
+    noted: &mut [u8],
 ) -> Split
     requires { ⌜ reading (now netlist) ≡ sound n (pinCount (now netlist)) ⌝ }
     requires { ⌜ faultExists (netOf (now netlist)) fault ≡ true ⌝ }
     requires { ⌜ b + f + 1 ≤ 15 ⌝ }
     requires { ⌜ (length (now known) ≡ n * (b + f + 1)) × (length (now marks) ≡ n * (b + f + 1)) ⌝ }
+    requires { ⌜ NotedStayOpen (netOf (now netlist)) fault f (now noted) ⌝ }
     ensures { λ r. ⌜ cond (leb (r .c) b) (some r) none ≡ firstSplit (netOf (now (netlist .entry))) fault f b ⌝ }
     ensures { λ r. ⌜ (r .frame ≤ r .c + f) × (r .node < n) ⌝ }
 {
@@ -50,7 +57,7 @@ fn first_split(
         node: 0,
     };
     while split.c <= b {
-        if closes(netlist, n, fault, f, split, known, marks) {
+        if closes(netlist, n, fault, f, split, known, marks, noted) {
             return split;
         }
         split = split.next(n, f);
@@ -121,7 +128,8 @@ fn search(
     requires { ⌜ 25 + 14 * (n * (b + f + 1)) ≤ length (now certificate) ⌝ }
     ensures { λ r. ⌜ finderOutcome (findingSays r) (now (known .exit)) (now (marks .exit)) (now (certificate .exit)) ≡ finderOutcome (answerFor (netOf (now (netlist .entry))) fault f (firstSplit (netOf (now (netlist .entry))) fault f b)) (replicate (length (now (known .entry))) 0) (replicate (length (now (marks .entry))) 0) (written (bytesFor (netOf (now (netlist .entry))) fault f (firstSplit (netOf (now (netlist .entry))) fault f b)) (now (certificate .entry))) ⌝ }
 {
-    let split = first_split(netlist, n, fault, b, f, known, marks);
+    let mut noted = [0u8; NOTED_LENGTH];
+    let split = first_split(netlist, n, fault, b, f, known, marks, &mut noted);
     let c = split.c;
     if c > b {
         values::fill(known, 0);
