@@ -29,6 +29,12 @@ module _ {A : Type 0} (f : ℕ → Option A) where
           last (yes l) = k q i l
           last (no l) = let z : n ≡ i = omega arith in subst (λ (j : ℕ). f j ≡ none) z e
 
+  -- and none is found where none is there
+  pub first-none-by : (n : ℕ) → ((i : ℕ) → i < n → f i ≡ none) → firstSome f n ≡ none
+  unfolding firstSome
+  first-none-by zero h = refl
+  first-none-by (suc n) h = rw (first-none-by n (λ i l. h i (omega arith))) (h n (omega arith))
+
   -- what is found is there, and nothing before it
   pub record FirstAt (n : ℕ) (a : A) : Type 0 where
     pub index : ℕ
@@ -76,6 +82,15 @@ module _ (net : Net) (f : Fault) (F : ℕ) where
   windows-none : (m : ℕ) → tryWindows net f F m ≡ none → (c t n : ℕ) → c < m → t < c + F + 1 → n < net .size → splitCloses net f F (split c t n) ≡ false
   unfolding tryWindows
   windows-none m e c t n b g h = frames-none c (c + F + 1) (first-none (λ c. tryFrames net f F c (c + F + 1)) m e c b) t n g h
+
+  -- and where none closes below c = m, none is found there
+  pub windows-none-by : (m : ℕ) → ((c t n : ℕ) → c < m → t < c + F + 1 → n < net .size → splitCloses net f F (split c t n) ≡ false) → tryWindows net f F m ≡ none
+  unfolding trySplit tryNodes tryFrames tryWindows
+  windows-none-by m h =
+      first-none-by (λ c. tryFrames net f F c (c + F + 1)) m
+      (λ c b. first-none-by (λ t. tryNodes net f F c t (net .size)) (c + F + 1)
+      (λ t g. first-none-by (λ n. trySplit net f F (split c t n)) (net .size)
+      (λ n l. rw (h c t n b g l, trySplit))))
 
   -- THE law of an answer none: every split of every window stays open
   pub split-none : (B : ℕ) → firstSplit net f F B ≡ none → (s : Split) → Within net B F s → splitCloses net f F s ≡ false

@@ -34,7 +34,7 @@ use Rattle.finder.proofs.FirstLaws.{split-none, split-some}
 use Rattle.finder.proofs.ReplayedLaws.{implied-replays}
 use Rattle.finder.proofs.WrittenLaws.{c-read, f-read, fault-read, frame-read, length-certificate, length-one-read, length-zero-read, node-read, pairs-read, sevenths, steps-one-read, steps-zero-read}
 use Rattle.finder.specs.Finder.{FinderCall, FinderOutcome, answerFor, branchOf, bytesFor, certificateFor, finderOutcome, finderTests, finding, firstSplit, found, frames, nothingFound, searched, splitCloses, stepCount, turnedBack, written}
-use Rattle.finder.specs.Marks.{IsFirst, IsMark, NoneCloses}
+use Rattle.finder.specs.Marks.{IsFirst, IsMark, NoneCloses, Within}
 use Rattle.finder.specs.declared.split.Split.{Split}
 
 -- no kind has more than 8 pins
@@ -69,7 +69,7 @@ site-few nb f e h k q = omega (arith, pins-few nb (f .node) e here, low)
 
 -- a sound netlist, a fault that exists, a window that is not too wide, and a split of it whose branches close
 module _ (nb : List ℕ) (f : Fault) (B F : ℕ) (sound-nb : reading nb ≡ sound (nodeCount nb) (pinCount nb))
-    (there : faultExists (netOf nb) f ≡ true) (narrow : B + F + 1 ≤ 15) (s : Split) (is-first : IsFirst (netOf nb) f B F s) where
+    (there : faultExists (netOf nb) f ≡ true) (narrow : B + F + 1 ≤ 15) (s : Split) (within : Within (netOf nb) B F s) (closing : splitCloses (netOf nb) f F s ≡ true) where
   abbrev net : Net
   net = netOf nb
 
@@ -120,13 +120,13 @@ module _ (nb : List ℕ) (f : Fault) (B F : ℕ) (sound-nb : reading nb ≡ soun
   unfolding certificateFor splitCloses
   zero-closes =
       run-closes 0 (steps-zero-read f F s (end 0 .steps) (end 1 .steps))
-      (and-left (closes net (linesOf f) (s .c) F (end 0)) (closes net (linesOf f) (s .c) F (end 1)) (is-first .closes))
+      (and-left (closes net (linesOf f) (s .c) F (end 0)) (closes net (linesOf f) (s .c) F (end 1)) closing)
 
   one-closes : Closes net bs 1
   unfolding certificateFor splitCloses
   one-closes =
       run-closes 1 (steps-one-read f F s (end 0 .steps) (end 1 .steps))
-      (and-right (closes net (linesOf f) (s .c) F (end 0)) (closes net (linesOf f) (s .c) F (end 1)) (is-first .closes))
+      (and-right (closes net (linesOf f) (s .c) F (end 0)) (closes net (linesOf f) (s .c) F (end 1)) closing)
 
   -- the checker's tests pass
   module _ (v w : List ℕ) (room-v : net .size * W ≤ length v) (room-w : net .size * W ≤ length w) where
@@ -138,7 +138,7 @@ module _ (nb : List ℕ) (f : Fault) (B F : ℕ) (sound-nb : reading nb ≡ soun
 
     tests-pass : Passed checkerTests (checkerCall nb bs v w)
     tests-pass =
-        let few : s .c + F + 1 ≤ 15 = omega (arith, is-first .within .0) in (
+        let few : s .c + F + 1 ≤ 15 = omega (arith, within .0) in (
           laid-out,
           (
             ap (faultExists net) names-fault ∙ there,
@@ -149,7 +149,7 @@ module _ (nb : List ℕ) (f : Fault) (B F : ℕ) (sound-nb : reading nb ≡ soun
                     ∙ rw (le-leb (net .size * W) (length v) room-v, le-leb (net .size * W) (length w) room-w),
                 (
                   (λ i. ltb (names-node i) (net .size) && ltb (names-frame i) (names-c i + names-f i + 1))
-                      ∙ rw (lt-ltb (s .node) (net .size) (is-first .within .2), lt-ltb (s .frame) W (is-first .within .1)),
+                      ∙ rw (lt-ltb (s .node) (net .size) (within .2), lt-ltb (s .frame) W (within .1)),
                   tt,
                 ),
               ),
@@ -182,22 +182,22 @@ module _ (nb : List ℕ) (f : Fault) (B F : ℕ) (sound-nb : reading nb ≡ soun
   run-few : (v : ℕ) → v < 2 → length (end v .steps) ≤ net .size * W
   unfolding branchOf
   run-few v h =
-      implied-few net (sound-ordered nb (nodeCount nb) (pinCount nb) sound-nb) (presentBelow (s .c) (linesOf f)) W (s .node) (s .frame) v (is-first .within .2) (is-first .within .1) h
+      implied-few net (sound-ordered nb (nodeCount nb) (pinCount nb) sound-nb) (presentBelow (s .c) (linesOf f)) W (s .node) (s .frame) v (within .2) (within .1) h
 
   count-few : stepCount net f F s ≤ 2 * (net .size * W)
   unfolding stepCount
   count-few = omega (arith, run-few 0 (omega arith), run-few 1 (omega arith))
 
-  -- and the fault is redundant
-  mark-redundant : Redundant nb f (s .c)
+  -- and the fault is redundant: THE law of a split that closes
+  pub mark-redundant : Redundant nb f (s .c)
   mark-redundant =
       let z : List ℕ = replicate (net .size * W) 0 in
       let l : net .size * W ≤ length z = omega (arith, length-replicate {A = ℕ} (net .size * W) 0) in
       subst (λ (g : Fault). Redundant nb g (s .c)) names-fault (accepted-redundant nb bs z z (s .c) (mark-accepted z z l l))
 
-  -- THE law of a split that is found: its certificate is a mark
-  pub split-marks : IsMark nb f B F (s .c) (stepCount net f F s) bs
-  split-marks =
+  -- THE law of a split that is found: it is the first, so its certificate is a mark
+  pub split-marks : IsFirst net f B F s → IsMark nb f B F (s .c) (stepCount net f F s) bs
+  split-marks is-first =
       record {
         split = s;
         is-first = is-first;
@@ -267,7 +267,8 @@ module _ (a : FinderCall) (answer : Answer) (v w x : List ℕ) (e : finderOutcom
           let ek : stepCount circuit (a .fault) (a .f) s ≡ k = cc in
           let eb : bs ≡ take l x = sym (take-append-seam bs (drop (length bs) (a .certificate))) ∙ (λ i. take (el i) (sym z i)) in
           let n : frames a ≤ 15 = leb-true (frames a) 15 (r .passed .1 .0) in
-          let m = split-marks (a .netlist) (a .fault) (a .b) (a .f) (r .sound-netlist) (r .passed .0) n s (split-some circuit (a .fault) (a .f) (a .b) s q) in
+          let i = split-some circuit (a .fault) (a .f) (a .b) s q in
+          let m = split-marks (a .netlist) (a .fault) (a .b) (a .f) (r .sound-netlist) (r .passed .0) n s (i .within) (i .closes) i in
           subst (λ (c : ℕ). IsMark (a .netlist) (a .fault) (a .b) (a .f) c k (take l x)) ec
           (subst (λ (k : ℕ). IsMark (a .netlist) (a .fault) (a .b) (a .f) (s .c) k (take l x)) ek
           (subst (IsMark (a .netlist) (a .fault) (a .b) (a .f) (s .c) (stepCount circuit (a .fault) (a .f) s)) eb m))

@@ -15,5 +15,6 @@ pub mod OpenSets
 pub mod NotesLaws
 pub mod BenchCircuits
 pub mod WalkLaws
+pub mod RuledOutLaws
 pub mod PartLaws
 pub mod FindingLaws

@@ -52,10 +52,15 @@ pub record Reached (net : Net) (fault : Fault) (F B : ℕ) (s : Split) : Type 0 
   pub node-within : s .node < net .size
 
 module _ (net : Net) (fault : Fault) (F B : ℕ) where
+  -- the first split of a window, where no earlier window has one that closes
+  pub reached-window : (c : ℕ) → c ≤ B + 1 → 0 < net .size → tryWindows net fault F c ≡ none → Reached net fault F B (split c 0 0)
+  unfolding firstSome tryNodes tryFrames
+  reached-window c h k e = record { windows = e; frames = refl; nodes = refl; c-within = h; frame-within = omega arith; node-within = k }
+
   -- the walk's start
   pub reached-start : 0 < net .size → Reached net fault F B (split 0 0 0)
-  unfolding firstSome tryNodes tryFrames tryWindows
-  reached-start h = record { windows = refl; frames = refl; nodes = refl; c-within = omega arith; frame-within = omega arith; node-within = h }
+  unfolding firstSome tryWindows
+  reached-start h = reached-window 0 (omega arith) h refl
 
   module _ (s : Split) (r : Reached net fault F B s) where
     abbrev At : Split → Type 0
@@ -90,16 +95,8 @@ module _ (net : Net) (fault : Fault) (F B : ℕ) where
       next-frame h g = record { windows = r .windows; frames = none-there h; nodes = refl; c-within = omega arith; frame-within = omega arith; node-within = omega arith }
 
       next-window : net .size ≤ s .node + 1 → s .c + F ≤ s .frame → s .c ≤ B → At (split (s .c + 1) 0 0)
-      unfolding firstSome tryNodes tryFrames
       next-window h g l = let z : s .frame + 1 ≡ s .c + F + 1 = omega arith in
-          record {
-            windows = windows-then ∙ subst (λ (m : ℕ). tryFrames net fault F (s .c) m ≡ none) z (none-there h);
-            frames = refl;
-            nodes = refl;
-            c-within = omega arith;
-            frame-within = omega arith;
-            node-within = omega arith;
-          }
+          reached-window (s .c + 1) (omega arith) (omega arith) (windows-then ∙ subst (λ (m : ℕ). tryFrames net fault F (s .c) m ≡ none) z (none-there h))
 
       -- a split that does not close is passed
       pub reached-next : s .c ≤ B → At (nextSplit (net .size) F s)
