@@ -8,10 +8,10 @@ use native.Mathlib.Omega.{arith}
 use lib.ListN.{drop, length}
 use borrow.Author.Tests.{eqb-true}
 use Rattle.values.proofs.GateLaws.{Refines, RefinesAll, indexed-refines, stuck-mono}
-use Rattle.values.proofs.ListLaws.{Below, below-table, build-agree, build-read, build-rest, build-same, getD-build, indexed-agree, length-build}
+use Rattle.values.proofs.ListLaws.{Below, below-table, build-agree, build-end, build-read, build-rest, build-same, getD-build, indexed-agree, length-build, rewritten-build}
 use Rattle.values.proofs.ValueLaws.{stuck-free, stuck-known}
 use Rattle.circuit.proofs.SoundLaws.{Facts, facts}
-use Rattle.circuit.specs.Clock.{latchedBy, latchedList, pinValues, seenBy, seenList}
+use Rattle.circuit.specs.Clock.{latchedBy, latchedInto, latchedList, pinValues, seenBy, seenList, settled}
 use Rattle.circuit.specs.Fault.{StuckLines}
 use Rattle.values.specs.Kind.{gate, isFlipFlop, isGiven, isInput}
 use Rattle.values.specs.Lists.{at, build}
@@ -143,3 +143,18 @@ module _ (c : Net) (s : StuckLines) where
       let e = build f i ++ drop i d in
       seenBy-agree (at e) (at e) (at (build f i)) i o h (build-read f d i)
       ∙ given-agree (at e) (at d) (at (build f i)) i (λ _. build-rest f d i (omega arith))
+
+  -- so the slice then holds the seen values
+  pub settled-seen : (d : List ℕ) → Ordered c → length d ≡ c .size → settled c s (c .size) d ≡ seenList c s (at d)
+  unfolding settled seenList
+  settled-seen d o h =
+      let f = seenNext (at d) in
+      rewritten-build (λ e. seenBy c s (at e) (at e)) f d (c .size) (omega arith) (λ i l. seen-turn d i o l (sym h))
+      ∙ build-end f d (c .size) (c .size) refl h
+
+  -- and a slice into which the latched values are put then holds them
+  pub latched-into : (v : ℕ → ℕ) (d : List ℕ) → length d ≡ c .size → latchedInto c s v (c .size) d ≡ latchedList c s v
+  unfolding latchedInto latchedList
+  latched-into v d h =
+      let f : List ℕ → ℕ → ℕ = λ _. latchedBy c s v in
+      rewritten-build f f d (c .size) (omega arith) (λ i l. refl) ∙ build-end f d (c .size) (c .size) refl h

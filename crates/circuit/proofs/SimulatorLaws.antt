@@ -10,11 +10,12 @@ use lib.ListN.{length}
 use borrow.Author.Tests.{eq-eqb, eqb-true, leb-true, ne-eqb}
 use Rattle.values.proofs.BoolLaws.{and-left, and-right}
 use Rattle.values.proofs.ListLaws.{every-at}
+use Rattle.circuit.proofs.ClockLaws.{latched-into, settled-seen, sound-ordered}
 use Rattle.circuit.proofs.RefusalLaws.{FirstFails, NoneSmaller, Passed, refusal-at, refusal-by, refusal-none, refusal-smallest}
 use Rattle.circuit.proofs.RunLaws.{stepped-clock}
-use Rattle.circuit.proofs.SoundLaws.{answered-sound}
+use Rattle.circuit.proofs.SoundLaws.{answered-sound, sound-size}
 use Rattle.circuit.specs.Answer.{Answer, Outcome, answered, outcome, refusal, refused}
-use Rattle.circuit.specs.Clock.{SimulatorCall, placeFits, simulation, simulatorTests, slicesFit, clockStep, turnedBack}
+use Rattle.circuit.specs.Clock.{SimulatorCall, latchedInto, placeFits, seenList, settled, simulation, simulatorTests, slicesFit, clockStep, turnedBack}
 use Rattle.circuit.specs.ClockLists.{InputBits, LatchedBits, latchedAfter, seenAfter}
 use Rattle.circuit.specs.Fault.{linesIn}
 use Rattle.values.specs.Kind.{isGiven}
@@ -89,6 +90,19 @@ slices-fitting c first second e =
     low n h q =
         let l = leb-true (at first n) 1 (readable (isGiven (c .kind n)) (leb (at first n) 1) (every-at (placeFits c first) (c .size) (and-right (eqb (length second) (c .size)) (every (placeFits c first) (c .size)) rest) n h) q) in
         omega arith
+
+-- the two halves of a clock step, one after the other on slices that fit, make the step
+pub step-halves : (a : SimulatorCall) (n p : ℕ) → reading (a .netlist) ≡ sound n p → Fitting (netOf (a .netlist)) (a .first) (a .second)
+    → outcome (answered []) (settled (netOf (a .netlist)) (linesIn (a .circuit)) n (a .first)) (latchedInto (netOf (a .netlist)) (linesIn (a .circuit)) (at (settled (netOf (a .netlist)) (linesIn (a .circuit)) n (a .first))) n (a .second)) ≡ clockStep a
+unfolding clockStep
+step-halves a n p e h =
+    let net = netOf (a .netlist) in
+    let s = linesIn (a .circuit) in
+    let z : n ≡ net .size = sound-size (a .netlist) n p e in
+    let q : settled net s n (a .first) ≡ seenList net s (at (a .first)) =
+    (λ i. settled net s (z i) (a .first)) ∙ settled-seen net s (a .first) (sound-ordered (a .netlist) n p e) (h .first-size) in
+    (λ i. outcome (answered []) (q i) (latchedInto net s (at (q i)) (z i) (a .second)))
+    ∙ ap (outcome (answered []) (seenList net s (at (a .first)))) (latched-into net s (at (seenList net s (at (a .first)))) (a .second) (h .second-size))
 
 -- what the answer done says: the netlist is sound, and the tests pass
 pub record Done (a : SimulatorCall) : Type 0 where

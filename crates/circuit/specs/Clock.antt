@@ -8,7 +8,7 @@ use lib.ListN.{length}
 use Rattle.circuit.specs.Answer.{Answer, Outcome, Test, answered, outcome, refusal, refused}
 use Rattle.circuit.specs.Fault.{StuckLines, circuitExists, linesIn}
 use Rattle.values.specs.Kind.{gate, isFlipFlop, isGiven}
-use Rattle.values.specs.Lists.{at, build, every, indexed, table}
+use Rattle.values.specs.Lists.{at, build, every, indexed, rewritten, table}
 use Rattle.circuit.specs.Netlist.{Net, netOf, reading}
 use Rattle.values.specs.Value.{stuckOr}
 use Rattle.circuit.specs.declared.clock.Stepped.{Stepped}
@@ -34,6 +34,15 @@ module _ (net : Net) (s : StuckLines) where
 
   unfoldable pub latchedList : (ℕ → ℕ) → List ℕ
   latchedList v = table (latchedBy v) (net .size)
+
+  -- The two halves of a clock step, on a slice of any length and for any number of nodes. Each node's seen value is put into its place, by
+  -- rising number, from what the places then hold; each node's latched value is put into its place. In a sound circuit and a slice with a
+  -- place for each node these are the two lists above (`settled-seen`, `latched-into` of ClockLaws).
+  unfoldable pub settled : ℕ → List ℕ → List ℕ
+  settled n l = rewritten (λ e. seenBy (at e) (at e)) n l
+
+  unfoldable pub latchedInto : (ℕ → ℕ) → ℕ → List ℕ → List ℕ
+  latchedInto v n l = rewritten (λ _. latchedBy v) n l
 
 -- what the simulator is given: a netlist, the good circuit or one with a fault, and two slices
 pub record SimulatorCall : Type 0 where

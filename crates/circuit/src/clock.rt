@@ -1,16 +1,16 @@
 // One clock step of a circuit, good or faulty.
 ghost use mathlib.Core.Path.{_≡_};
-ghost use Prim.Native.Nat.{_*_, _+_, _<_};
+ghost use Prim.Native.Nat.{_*_, _+_};
 ghost use lib.Dec.{eqb};
-ghost use lib.ListN.{length, set};
+ghost use lib.ListN.{set};
 ghost use mathlib.Core.Bool.{cond};
 ghost use Rattle.values.specs.Lists.{at, every};
-ghost use Rattle.circuit.specs.Netlist.{kindOf, netOf, nodeCount, offsetOf, pinCount, reading, sound, sourceOf};
+ghost use Rattle.circuit.specs.Netlist.{kindOf, netOf, nodeCount, offsetOf, sourceOf};
 ghost use Rattle.values.specs.Kind.{gate};
 ghost use Rattle.values.specs.Value.{stuckOr};
 ghost use Rattle.circuit.specs.Fault.{linesIn};
 ghost use Rattle.circuit.specs.Answer.{outcome};
-ghost use Rattle.circuit.specs.Clock.{pinValues, seenBy, seenList, latchedBy, latchedList, placeFits, slicesFit, simulatorCall, simulation, steppedSays};
+ghost use Rattle.circuit.specs.Clock.{pinValues, seenBy, settled, latchedBy, latchedInto, placeFits, slicesFit, simulatorCall, simulation, steppedSays};
 use crate::fault::Circuit;
 use crate::fault::NOT_STUCK;
 use crate::fault::circuit_exists;
@@ -124,11 +124,10 @@ fn seen_value(netlist: &[u8], circuit: Circuit, seen: &[u8], node: u16) -> u8
     gate_value(netlist, circuit, seen, node)
 }
 
-// Puts each node's seen value into its place, by rising node number.
-fn settle(netlist: &[u8], n: u16, circuit: Circuit, first: &mut [u8])
-    requires { ⌜ reading (now netlist) ≡ sound n (pinCount (now netlist)) ⌝ }
-    requires { ⌜ length (now first) ≡ n ⌝ }
-    ensures { λ _. ⌜ now (first .exit) ≡ seenList (netOf (now (netlist .entry))) (linesIn circuit) (at (now (first .entry))) ⌝ }
+// Puts the seen values of the first n nodes into their places, by rising node number: each from its
+// own place and its sources' places.
+pub fn settle(netlist: &[u8], n: u16, circuit: Circuit, first: &mut [u8])
+    ensures { λ _. ⌜ now (first .exit) ≡ settled (netOf (now (netlist .entry))) (linesIn circuit) n (now (first .entry)) ⌝ }
 {
     let mut node: u16 = 0;
     while node < n {
@@ -139,27 +138,25 @@ fn settle(netlist: &[u8], n: u16, circuit: Circuit, first: &mut [u8])
 }
 
 // What a node latches: what a flip-flop's pin reads, 0 at other nodes.
-fn latched_value(netlist: &[u8], n: u16, circuit: Circuit, seen: &[u8], node: u16) -> u8
-    requires { ⌜ reading (now netlist) ≡ sound n (pinCount (now netlist)) ⌝ }
-    requires { ⌜ node < n ⌝ }
+fn latched_value(netlist: &[u8], circuit: Circuit, seen: &[u8], node: u16) -> u8
     ensures { λ r. ⌜ r ≡ latchedBy (netOf (now (netlist .entry))) (linesIn circuit) (at (now (seen .entry))) node ⌝ }
 {
-    if kind_of(netlist, node) == FLIP_FLOP {
-        pin_value(netlist, pins_place(netlist, node), circuit, seen, node, 0)
-    } else {
-        0
+    if kind_of(netlist, node) != FLIP_FLOP {
+        return 0;
     }
+    if length_of(netlist, node) == 0 {
+        return 0;
+    }
+    pin_value(netlist, pins_place(netlist, node), circuit, seen, node, 0)
 }
 
-// Puts what each node latches into its place.
-fn latch(netlist: &[u8], n: u16, circuit: Circuit, seen: &[u8], second: &mut [u8])
-    requires { ⌜ reading (now netlist) ≡ sound n (pinCount (now netlist)) ⌝ }
-    requires { ⌜ length (now second) ≡ n ⌝ }
-    ensures { λ _. ⌜ now (second .exit) ≡ latchedList (netOf (now (netlist .entry))) (linesIn circuit) (at (now (seen .entry))) ⌝ }
+// Puts what each of the first n nodes latches into its place.
+pub fn latch(netlist: &[u8], n: u16, circuit: Circuit, seen: &[u8], second: &mut [u8])
+    ensures { λ _. ⌜ now (second .exit) ≡ latchedInto (netOf (now (netlist .entry))) (linesIn circuit) (at (now (seen .entry))) n (now (second .entry)) ⌝ }
 {
     let mut node: u16 = 0;
     while node < n {
-        let value = latched_value(netlist, n, circuit, seen, node);
+        let value = latched_value(netlist, circuit, seen, node);
         store(second, node as usize, value);
         node += 1;
     }

@@ -6,6 +6,8 @@ mod netlist;
 pub use clock::Stepped;
 pub use clock::gate_assuming;
 pub use clock::gate_value;
+pub use clock::latch;
+pub use clock::settle;
 pub use clock::simulate;
 pub use fault::Circuit;
 pub use fault::Fault;

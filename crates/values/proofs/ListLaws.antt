@@ -10,10 +10,10 @@ use native.Mathlib.Numerals.{add-one}
 use native.Mathlib.Omega.{arith}
 use borrow.Author.Tests.{le-ltb, lt-ltb, ltb-false, ltb-true}
 use lib.Dec.{ltb}
-use lib.ListN.{List·getD-append, List·getD-eq-default, drop, drop-of-length-le, getD, length, length-append, length-drop, length-take, replicate, set, take}
+use lib.ListN.{List·getD-append, List·getD-eq-default, drop, drop-of-length-le, getD, length, length-append, length-drop, length-set, length-take, replicate, set, take}
 use lib.Seq.{append-snoc, drop-cons, ext-getD, getD-at, getD-drop, getD-set-other, getD-set-same, getD-take, length-take-le, set-at, take-all}
 use Rattle.values.proofs.BoolLaws.{and-left, and-right}
-use Rattle.values.specs.Lists.{any, at, build, every, indexed, table}
+use Rattle.values.specs.Lists.{any, at, build, every, indexed, rewritten, table}
 
 -- one turn of a loop that tests by rising index
 pub every-more : (f : ℕ → Bool) (n : ℕ) → every f n ≡ true → f n ≡ true → every f (n + 1) ≡ true
@@ -139,6 +139,28 @@ build-read f d i j h = List·getD-append (build f i) (drop i d) 0 j (omega (arit
 
 pub build-rest : (f : List ℕ → ℕ → ℕ) (d : List ℕ) (i : ℕ) → i < length d → at (build f i ++ drop i d) i ≡ at d i
 build-rest f d i h = rw (drop-cons d i 0) (getD-at (build f i) (getD d i 0) (drop (suc i) d) 0 i (length-build f i))
+
+-- one turn of a loop that rewrites a slice
+pub rewritten-more : (f : List ℕ → ℕ → ℕ) (d : List ℕ) (i : ℕ) → set (rewritten f i d) i (f (rewritten f i d) i) ≡ rewritten f (i + 1) d
+unfolding rewritten
+rewritten-more f d i = rw add-one
+
+pub length-rewritten : (f : List ℕ → ℕ → ℕ) (d : List ℕ) (i : ℕ) → length (rewritten f i d) ≡ length d
+unfolding rewritten
+length-rewritten f d zero = refl
+length-rewritten f d (suc i) = simp length-set (length-rewritten f d i)
+
+-- Rewriting makes the list that g makes, if f makes of the slice, filled so far, what g makes of the list so far.
+pub rewritten-build : (f g : List ℕ → ℕ → ℕ) (d : List ℕ) (n : ℕ) → n ≤ length d
+    → ((i : ℕ) → i < n → f (build g i ++ drop i d) i ≡ g (build g i) i) → rewritten f n d ≡ build g n ++ drop n d
+unfolding rewritten
+rewritten-build f g d zero h e = build-none g d
+rewritten-build f g d (suc n) h e =
+    let r : rewritten f n d ≡ build g n ++ drop n d = rewritten-build f g d n (omega arith) (λ i l. e i (omega arith)) in
+    (λ i. set (r i) n (f (r i) n))
+    ∙ ap (λ (v : ℕ). set (build g n ++ drop n d) n v) (e n (omega arith))
+    ∙ build-store g d n h
+    ∙ rw add-one
 
 -- all elements are below b
 pub data Below (b : ℕ) : List ℕ → Type 0 where

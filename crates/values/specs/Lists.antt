@@ -2,7 +2,7 @@
 use mathlib.Core.Bool.{Bool, _&&_, _||_, false, true}
 use mathlib.Core.List.{List, [], _++_, _∷_}
 use Prim.Native.Nat.{_*_, _+_, suc, zero, ℕ}
-use lib.ListN.{getD}
+use lib.ListN.{getD, set}
 
 -- the element at an index, 0 past the end
 abbrev pub at : List ℕ → ℕ → ℕ
@@ -20,6 +20,11 @@ build f (suc n) = let l = build f n in l ++ (f l n ∷ [])
 -- f 0, f 1, .., f (n - 1)
 abbrev pub table : (ℕ → ℕ) → ℕ → List ℕ
 table f n = build (λ _. f) n
+
+-- a list with its places 0 to n - 1 rewritten by rising number, each from the list as it then stands; places past its end there are none
+unfoldable pub rewritten : (List ℕ → ℕ → ℕ) → ℕ → List ℕ → List ℕ
+rewritten f zero l = l
+rewritten f (suc n) l = let e = rewritten f n l in set e n (f e n)
 
 -- f of each element's index and the element, indices counted from k
 abbrev pub indexed : (ℕ → ℕ → ℕ) → ℕ → List ℕ → List ℕ

@@ -2,10 +2,10 @@ use mathlib.Core.Path.{_≡_, refl, sym, ap, _∙_}
 use denote.Ref.{now}
 use borrow.Author.Tests.{not-true, not-false}
 use Rattle.circuit.specs.Netlist.{netOf, reading, sound, readingSays}
-use Rattle.circuit.specs.Clock.{simulatorCall, clockStep}
+use Rattle.circuit.specs.Clock.{simulatorCall}
 use Rattle.circuit.proofs.RefusalLaws.{fails-here, fails-later}
-use Rattle.circuit.proofs.SoundLaws.{facts, sound-size}
-use Rattle.circuit.proofs.SimulatorLaws.{simulation-unsound, simulation-refused, simulation-done, slices-fitting}
+use Rattle.circuit.proofs.SoundLaws.{sound-size}
+use Rattle.circuit.proofs.SimulatorLaws.{simulation-unsound, simulation-refused, simulation-done, slices-fitting, step-halves}
 use borrow.Author.Needs.{needs}
 use Rattle.circuit.proofs.clock.simulate.Statement.{statement}
 use Rattle.circuit.proofs.clock.simulate.Tie as tie
@@ -86,23 +86,11 @@ returns-3 c = let a = c .before .before .before .before .before .before .before 
 
 -- src/clock.rt:158:5
 settle-requires : tie.Need-settle-requires
-settle-requires c κs = let a = c .before .before .before .before .before .before .before .before .before .before .before .before .before .before .args in
-    let s = now (a .netlist) in
-    let n = c .before .before .before .before .before .before .before .before .answer .given .0 .0 in
-    let p = c .before .before .before .before .before .before .before .before .answer .given .0 .1 .0 in
-    let e : reading s ≡ sound n p = sym (c .before .before .before .before .before .before .before .before .before .before .read .ensures) ∙ ap readingSays (c .before .before .before .before .before .before .before .before .answer .given .1) in
-    let y = sym (c .before .before .slices-fit .ensures) ∙ not-false _ (c .before .if2 .left) in
-    (rw (← facts s n p e .pins) e, slices-fitting (netOf s) (now (a .first)) (now (a .second)) y .first-size ∙ sym (sound-size s n p e))
+settle-requires c κs = search needs
 
 -- src/clock.rt:159:5
 latch-requires : tie.Need-latch-requires
-latch-requires c κs = let a = c .before .before .before .before .before .before .before .before .before .before .before .before .before .before .before .before .before .before .before .args in
-    let s = now (a .netlist) in
-    let n = c .before .before .before .before .before .before .before .before .before .before .before .before .before .answer .given .0 .0 in
-    let p = c .before .before .before .before .before .before .before .before .before .before .before .before .before .answer .given .0 .1 .0 in
-    let e : reading s ≡ sound n p = sym (c .before .before .before .before .before .before .before .before .before .before .before .before .before .before .before .read .ensures) ∙ ap readingSays (c .before .before .before .before .before .before .before .before .before .before .before .before .before .answer .given .1) in
-    let y = sym (c .before .before .before .before .before .before .before .slices-fit .ensures) ∙ not-false _ (c .before .before .before .before .before .before .if2 .left) in
-    (rw (← facts s n p e .pins) e, slices-fitting (netOf s) (now (a .first)) (now (a .second)) y .second-size ∙ sym (sound-size s n p e))
+latch-requires c κs = search needs
 
 -- src/clock.rt:145:1
 same-length-3 : tie.Need-same-length-3
@@ -114,7 +102,6 @@ same-length-4 c = search needs
 
 -- src/clock.rt:145:1
 returns-4 : tie.Need-returns-4
-unfolding clockStep
 returns-4 c = let a = c .before .before .before .before .before .before .before .before .before .before .before .before .before .before .before .before .before .before .before .before .before .before .args in
     let s = now (a .netlist) in
     let q = simulatorCall s (a .circuit) (now (a .first)) (now (a .second)) in
@@ -123,7 +110,8 @@ returns-4 c = let a = c .before .before .before .before .before .before .before 
     let e : reading s ≡ sound n p = sym (c .before .before .before .before .before .before .before .before .before .before .before .before .before .before .before .before .before .before .read .ensures) ∙ ap readingSays (c .before .before .before .before .before .before .before .before .before .before .before .before .before .before .before .before .answer .given .1) in
     let x = sym (c .before .before .before .before .before .before .before .before .before .before .before .before .before .before .circuit-exists .ensures) ∙ not-false _ (c .before .before .before .before .before .before .before .before .before .before .before .before .before .if1 .left) in
     let y = sym (c .before .before .before .before .before .before .before .before .before .before .slices-fit .ensures) ∙ not-false _ (c .before .before .before .before .before .before .before .before .before .if2 .left) in
-    rw (c .before .before .latch .ensures, c .before .before .before .before .before .before .before .settle .ensures) (sym (simulation-done q e (x, (y, tt))))
+    rw (c .before .before .latch .ensures, c .before .before .before .before .before .before .before .settle .ensures)
+    (step-halves q n p e (slices-fitting (netOf s) (now (a .first)) (now (a .second)) y) ∙ sym (simulation-done q e (x, (y, tt))))
 
 pub simulate-spec : {M : Type 1} → statement M
 simulate-spec =
