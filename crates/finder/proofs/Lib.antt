@@ -16,5 +16,7 @@ pub mod NotesLaws
 pub mod BenchCircuits
 pub mod WalkLaws
 pub mod RuledOutLaws
+pub mod AlikeLaws
+pub mod WitnessLaws
 pub mod PartLaws
 pub mod FindingLaws

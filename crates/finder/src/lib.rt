@@ -3,6 +3,7 @@ mod branch;
 mod search;
 mod split;
 mod sweep;
+mod witness;
 mod writer;
 
 pub use search::Finding;

@@ -1,0 +1,88 @@
+// Clocks with pseudo-random inputs: an output of the faulty circuit that differs from the good
+// circuit's shows that no certificate is to be had, so the search may be spared.
+ghost use mathlib.Core.Path.{_≡_};
+ghost use mathlib.Core.Bool.{_&&_, not, true};
+ghost use Prim.Native.Nat.{ℕ, _<_};
+ghost use lib.Dec.{eqb};
+ghost use lib.ListN.{length};
+ghost use Rattle.values.specs.Kind.{isOutput};
+ghost use Rattle.values.specs.Lists.{at, table};
+ghost use Rattle.circuit.specs.ClockLists.{clockStart, latchedAfter, seenAfter};
+ghost use Rattle.circuit.specs.Fault.{linesIn, linesOf};
+ghost use Rattle.circuit.specs.Netlist.{kindOf, netOf, pinCount, reading, sound};
+ghost use Rattle.checker.specs.Statement.{Redundant};
+ghost use Rattle.finder.specs.Alike.{Alike, AlikeFrom};
+use circuit::Circuit;
+use circuit::Fault;
+use values::FLIP_FLOP;
+use values::OUTPUT;
+use values::byte_at;
+use values::store;
+
+// How often the two circuits are run, each time from another start.
+const TRIALS: u8 = 8;
+
+// How many clocks the good circuit takes beside the faulty one.
+const CLOCKS: u8 = 16;
+
+// The number after a pseudo-random one: a linear congruential generator with the modulus 2^31.
+fn next_random(random: u32) -> u32 {
+    ((random as u64 * 1103515245 + 12345) % 2147483648) as u32
+}
+
+// One of its upper bits, which are the better ones.
+fn bit_of(random: u32) -> u8
+    ensures { λ r. ⌜ r < 2 ⌝ }
+{
+    ((random / 1048576) % 2) as u8
+}
+
+// Puts a pseudo-random 0 or 1 into every place. Gives the number from which to go on.
+fn draw(random: u32, values: &mut [u8]) -> u32
+    ensures { λ _. ⌜ ((k : ℕ) → k < length (now (values .entry)) → at (now (values .exit)) k < 2) ⌝ }
+{
+    let mut next = random;
+    let mut place: usize = 0;
+    while place < values.len() {
+        next = next_random(next);
+        values[place] = bit_of(next);
+        place += 1;
+    }
+    next
+}
+
+// Puts the bytes of one slice into another of the same length.
+fn copy(from: &[u8], to: &mut [u8])
+    requires { ⌜ length (now to) ≡ length (now from) ⌝ }
+    ensures { λ _. ⌜ now (to .exit) ≡ now (from .entry) ⌝ }
+{
+    let mut place: usize = 0;
+    while place < from.len() {
+        to[place] = from[place];
+        place += 1;
+    }
+}
+
+// What a clock step is given at a node's place: the latched value of a flip-flop, else what is there.
+fn start_value(netlist: &[u8], latched: &[u8], values: &[u8], node: u16) -> u8
+    ensures { λ r. ⌜ r ≡ clockStart (netOf (now (netlist .entry))) (now (values .entry)) (now (latched .entry)) node ⌝ }
+{
+    if circuit::kind_of(netlist, node) == FLIP_FLOP {
+        byte_at(latched, node as usize)
+    } else {
+        byte_at(values, node as usize)
+    }
+}
+
+// Puts the latched values into the places of flip-flops.
+fn start_clock(netlist: &[u8], n: u16, latched: &[u8], values: &mut [u8])
+    requires { ⌜ length (now values) ≡ n ⌝ }
+    ensures { λ _. ⌜ now (values .exit) ≡ table (clockStart (netOf (now (netlist .entry))) (now (values .entry)) (now (latched .entry))) n ⌝ }
+{
+    let mut node: u16 = 0;
+    while node < n {
+        let value = start_value(netlist, latched, values, node);
+        store(values, node as usize, value);
+        node += 1;
+    }
+}
