@@ -1,18 +1,21 @@
--- Laws of the loops that draw values, and put together what a clock step is given.
-use mathlib.Core.Bool.{Bool, cond}
+-- Laws of clocks with values that are drawn: of the loops that draw them and put together what a clock step is given, and of the step.
+use mathlib.Core.Bool.{_&&_, cond, not, true}
 use mathlib.Core.List.{List, _++_}
-use mathlib.Core.Path.{_∙_, _≡_, ap, refl, sym}
+use mathlib.Core.Path.{_∙_, _≡_, ap}
 use Prim.Native.Nat.{_+_, _<_, ℕ}
 use native.Mathlib.Numerals.{add-one}
 use native.Mathlib.Omega.{arith}
-use lib.ListN.{drop, getD, length, set, take}
+use lib.Dec.{eqb}
+use lib.ListN.{drop, length, set, take}
 use lib.Seq.{getD-set-same, take-suc, take-suc-set}
 use borrow.Author.Count.{below-more}
+use borrow.Author.Tests.{eqb-false, eqb-true, not-true}
+use Rattle.values.proofs.BoolLaws.{and-left, and-right}
 use Rattle.values.proofs.ListLaws.{build-rest, build-store, getD-build, length-build, set-either}
-use Rattle.values.specs.Kind.{isFlipFlop}
+use Rattle.values.specs.Kind.{isFlipFlop, isOutput}
 use Rattle.values.specs.Lists.{at, table}
-use Rattle.circuit.proofs.ClockLaws.{Ordered, latched-into, seenList-agree, settled-seen, length-seen}
-use Rattle.circuit.specs.Clock.{latchedInto, seenList, settled}
+use Rattle.circuit.proofs.ClockLaws.{Ordered, latched-into, length-latched, length-seen, seenList-agree, settled-seen}
+use Rattle.circuit.specs.Clock.{latchedInto, settled}
 use Rattle.circuit.specs.ClockLists.{InputBits, LatchedBits, clockStart, latchedAfter, seenAfter}
 use Rattle.circuit.specs.Fault.{StuckLines}
 use Rattle.circuit.specs.Netlist.{Net}
@@ -37,10 +40,40 @@ module _ (net : Net) (x l : List ℕ) where
       ap (λ (v : ℕ). set e i (cond (isFlipFlop (net .kind i)) (at l i) v)) (build-rest (λ _. f) x i h)
       ∙ build-store (λ _. f) x i h
 
-  -- settled, it holds the clock's seen values
-  module _ (s : StuckLines) (o : Ordered net) where
-    pub start-settled : settled net s (net .size) (table (clockStart net x l) (net .size)) ≡ seenAfter net s x l
+  -- Settled, it holds the clock's seen values; and what is latched from these is what the clock latches.
+  module _ (s : StuckLines) (n : ℕ) (e : n ≡ net .size) where
+    pub clock-settled : Ordered net → settled net s n (table (clockStart net x l) n) ≡ seenAfter net s x l
     unfolding seenAfter
-    start-settled =
-        settled-seen net s (table (clockStart net x l) (net .size)) o (length-build (λ _. clockStart net x l) (net .size))
-        ∙ seenList-agree net s (at (table (clockStart net x l) (net .size))) (clockStart net x l) (λ n p _. getD-build (λ _. clockStart net x l) 0 (net .size) p)
+    clock-settled o =
+        let f = clockStart net x l in
+        (λ i. settled net s (e i) (table f (e i)))
+        ∙ settled-seen net s (table f (net .size)) o (length-build (λ _. f) (net .size))
+        ∙ seenList-agree net s (at (table f (net .size))) f (λ n p _. getD-build (λ _. f) 0 (net .size) p)
+
+    pub clock-latched : (d : List ℕ) → length d ≡ n → latchedInto net s (at (seenAfter net s x l)) n d ≡ latchedAfter net s x l
+    unfolding latchedAfter
+    clock-latched d h = (λ i. latchedInto net s (at (seenAfter net s x l)) (e i) d) ∙ latched-into net s (at (seenAfter net s x l)) d (h ∙ e)
+
+-- a circuit's values and latched values have a place for each node
+pub length-seenAfter : (net : Net) (s : StuckLines) (x l : List ℕ) → length (seenAfter net s x l) ≡ net .size
+unfolding seenAfter
+length-seenAfter net s x l = length-seen net s (clockStart net x l)
+
+pub length-latchedAfter : (net : Net) (s : StuckLines) (x l : List ℕ) → length (latchedAfter net s x l) ≡ net .size
+unfolding latchedAfter
+length-latchedAfter net s x l = length-latched net s (at (seenAfter net s x l))
+
+-- values that are drawn are a clock's inputs, and are latched values
+module _ (net : Net) (n : ℕ) (e : n ≡ net .size) (x : List ℕ) (h : (k : ℕ) → k < n → at x k < 2) where
+  pub drawn-inputs : InputBits net x
+  unfolding InputBits
+  drawn-inputs k p _ = h k (omega arith)
+
+  pub drawn-latched : LatchedBits net x
+  unfolding LatchedBits
+  drawn-latched k p _ = h k (omega arith)
+
+-- an output at which two circuits differ: they are not the same there
+pub output-apart : (k v w : ℕ) → (isOutput k && not (eqb v w)) ≡ true → (k ≡ 1 → v ≡ w) → ⊥
+output-apart k v w e h =
+    eqb-false v w (not-true (eqb v w) (and-right (isOutput k) (not (eqb v w)) e)) (h (eqb-true k 1 (and-left (isOutput k) (not (eqb v w)) e)))

@@ -86,3 +86,38 @@ fn start_clock(netlist: &[u8], n: u16, latched: &[u8], values: &mut [u8])
         node += 1;
     }
 }
+
+// A clock of a circuit. At the places of inputs the values are the clock's; afterwards they are the
+// seen values of all nodes.
+fn run_clock(netlist: &[u8], n: u16, circuit: Circuit, latched: &mut [u8], values: &mut [u8])
+    requires { ⌜ reading (now netlist) ≡ sound n (pinCount (now netlist)) ⌝ }
+    requires { ⌜ (length (now latched) ≡ n) × (length (now values) ≡ n) ⌝ }
+    ensures { λ _. ⌜ now (values .exit) ≡ seenAfter (netOf (now (netlist .entry))) (linesIn circuit) (now (values .entry)) (now (latched .entry)) ⌝ }
+    ensures { λ _. ⌜ now (latched .exit) ≡ latchedAfter (netOf (now (netlist .entry))) (linesIn circuit) (now (values .entry)) (now (latched .entry)) ⌝ }
+{
+    start_clock(netlist, n, latched, values);
+    circuit::settle(netlist, n, circuit, values);
+    circuit::latch(netlist, n, circuit, values, latched);
+}
+
+// Whether a node is an output at which the two circuits differ.
+fn output_differs(netlist: &[u8], faulty: &[u8], good: &[u8], node: u16) -> bool
+    ensures { λ r. ⌜ r ≡ (isOutput (kindOf (now (netlist .entry)) node) && not (eqb (at (now (faulty .entry)) node) (at (now (good .entry)) node))) ⌝ }
+{
+    circuit::kind_of(netlist, node) == OUTPUT
+        && byte_at(faulty, node as usize) != byte_at(good, node as usize)
+}
+
+// Whether any is.
+fn outputs_differ(netlist: &[u8], n: u16, faulty: &[u8], good: &[u8]) -> bool
+    ensures { λ r. ⌜ (r ≡ true → ((k : ℕ) → k < n → kindOf (now (netlist .entry)) k ≡ 1 → at (now (faulty .entry)) k ≡ at (now (good .entry)) k) → ⊥) ⌝ }
+{
+    let mut node: u16 = 0;
+    while node < n {
+        if output_differs(netlist, faulty, good, node) {
+            return true;
+        }
+        node += 1;
+    }
+    false
+}
