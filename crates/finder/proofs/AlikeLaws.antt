@@ -4,12 +4,11 @@ use mathlib.Core.Path.{_≡_}
 use Prim.Native.Nat.{_<_, suc, ℕ}
 use native.Mathlib.Nat.{suc-add, zero-add}
 use native.Mathlib.Omega.{arith}
-use Rattle.values.specs.Lists.{at}
 use Rattle.circuit.specs.ClockLists.{InputBits, LatchedBits, first-clock, latchedAfter, no-clocks, seenAfter}
 use Rattle.circuit.specs.Fault.{StuckLines, noneStuck}
 use Rattle.circuit.specs.Netlist.{Net}
 use Rattle.checker.specs.Statement.{EqualOutputs}
-use Rattle.finder.specs.Alike.{Alike, AlikeFrom}
+use Rattle.finder.specs.Alike.{Alike, AlikeFrom, SameOutputs}
 
 module _ (net : Net) (faulted : StuckLines) where
   -- what redundancy says of one start
@@ -29,8 +28,8 @@ module _ (net : Net) (faulted : StuckLines) where
 
   -- Both circuits take a clock: they show the same outputs, and go on alike from what each has latched.
   module _ (x l m : List ℕ) (p : InputBits net x) (h : Alike net faulted l m) where
-    pub alike-now : (n : ℕ) → n < net .size → net .kind n ≡ 1 → at (seenAfter net faulted x l) n ≡ at (seenAfter net noneStuck x m) n
-    unfolding Alike
+    pub alike-now : SameOutputs net (seenAfter net faulted x l) (seenAfter net noneStuck x m)
+    unfolding Alike SameOutputs
     alike-now n k o = h (x ∷ []) (first-clock p no-clocks) 0 n (omega arith) k o
 
     pub alike-next : Alike net faulted (latchedAfter net faulted x l) (latchedAfter net noneStuck x m)

@@ -14,7 +14,7 @@ use Rattle.values.proofs.BoolLaws.{and-left, and-right}
 use Rattle.values.proofs.ListLaws.{build-rest, build-store, getD-build, length-build, set-either}
 use Rattle.values.specs.Kind.{isFlipFlop, isOutput}
 use Rattle.values.specs.Lists.{at, table}
-use Rattle.circuit.proofs.ClockLaws.{Ordered, latched-into, length-latched, length-seen, seenList-agree, settled-seen}
+use Rattle.circuit.proofs.ClockLaws.{Ordered, latched-into, seenList-agree, settled-seen}
 use Rattle.circuit.specs.Clock.{latchedInto, settled}
 use Rattle.circuit.specs.ClockLists.{InputBits, LatchedBits, clockStart, latchedAfter, seenAfter}
 use Rattle.circuit.specs.Fault.{StuckLines}
@@ -53,15 +53,6 @@ module _ (net : Net) (x l : List ℕ) where
     pub clock-latched : (d : List ℕ) → length d ≡ n → latchedInto net s (at (seenAfter net s x l)) n d ≡ latchedAfter net s x l
     unfolding latchedAfter
     clock-latched d h = (λ i. latchedInto net s (at (seenAfter net s x l)) (e i) d) ∙ latched-into net s (at (seenAfter net s x l)) d (h ∙ e)
-
--- a circuit's values and latched values have a place for each node
-pub length-seenAfter : (net : Net) (s : StuckLines) (x l : List ℕ) → length (seenAfter net s x l) ≡ net .size
-unfolding seenAfter
-length-seenAfter net s x l = length-seen net s (clockStart net x l)
-
-pub length-latchedAfter : (net : Net) (s : StuckLines) (x l : List ℕ) → length (latchedAfter net s x l) ≡ net .size
-unfolding latchedAfter
-length-latchedAfter net s x l = length-latched net s (at (seenAfter net s x l))
 
 -- values that are drawn are a clock's inputs, and are latched values
 module _ (net : Net) (n : ℕ) (e : n ≡ net .size) (x : List ℕ) (h : (k : ℕ) → k < n → at x k < 2) where

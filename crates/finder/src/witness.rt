@@ -11,7 +11,7 @@ ghost use Rattle.circuit.specs.ClockLists.{clockStart, latchedAfter, seenAfter}
 ghost use Rattle.circuit.specs.Fault.{linesIn, linesOf};
 ghost use Rattle.circuit.specs.Netlist.{kindOf, netOf, pinCount, reading, sound};
 ghost use Rattle.checker.specs.Statement.{Redundant};
-ghost use Rattle.finder.specs.Alike.{Alike, AlikeFrom};
+ghost use Rattle.finder.specs.Alike.{Alike, AlikeFrom, SameOutputs};
 use circuit::Circuit;
 use circuit::Fault;
 use values::FLIP_FLOP;
@@ -19,8 +19,8 @@ use values::OUTPUT;
 use values::byte_at;
 use values::store;
 
-// How often the two circuits are run, each time from another start.
-const TRIALS: u8 = 8;
+// How often the two circuits are run, each time with other pseudo-random numbers.
+const TRIALS: u32 = 8;
 
 // How many clocks the good circuit takes beside the faulty one.
 const CLOCKS: u8 = 16;
@@ -110,7 +110,8 @@ fn output_differs(netlist: &[u8], faulty: &[u8], good: &[u8], node: u16) -> bool
 
 // Whether any is.
 fn outputs_differ(netlist: &[u8], n: u16, faulty: &[u8], good: &[u8]) -> bool
-    ensures { λ r. ⌜ (r ≡ true → ((k : ℕ) → k < n → kindOf (now (netlist .entry)) k ≡ 1 → at (now (faulty .entry)) k ≡ at (now (good .entry)) k) → ⊥) ⌝ }
+    requires { ⌜ n ≡ netOf (now netlist) .size ⌝ }
+    ensures { λ r. ⌜ (r ≡ true → SameOutputs (netOf (now (netlist .entry))) (now (faulty .entry)) (now (good .entry)) → ⊥) ⌝ }
 {
     let mut node: u16 = 0;
     while node < n {
@@ -118,6 +119,128 @@ fn outputs_differ(netlist: &[u8], n: u16, faulty: &[u8], good: &[u8]) -> bool
             return true;
         }
         node += 1;
+    }
+    false
+}
+
+// The faulty circuit takes c clocks. Gives the number from which to go on.
+fn lead_in(
+    netlist: &[u8],
+    n: u16,
+    fault: Fault,
+    c: u8,
+    random: u32,
+    values: &mut [u8],
+    latched: &mut [u8],
+) -> u32
+    requires { ⌜ reading (now netlist) ≡ sound n (pinCount (now netlist)) ⌝ }
+    requires { ⌜ (length (now values) ≡ n) × (length (now latched) ≡ n) ⌝ }
+    ensures { λ _. ⌜ (AlikeFrom (netOf (now (netlist .entry))) (linesOf fault) c (now (latched .entry)) → Alike (netOf (now (netlist .entry))) (linesOf fault) (now (latched .exit)) (now (latched .exit))) ⌝ }
+{
+    let mut next = random;
+    let mut left = c;
+    while left > 0 {
+        next = draw(next, values);
+        run_clock(netlist, n, Circuit::Faulty(fault), latched, values);
+        left -= 1;
+    }
+    next
+}
+
+// Both circuits take a clock with the same pseudo-random inputs: the faulty one in the first two
+// slices, the good one in the others. Gives the number from which to go on.
+fn step_both(
+    netlist: &[u8],
+    n: u16,
+    fault: Fault,
+    random: u32,
+    first: &mut [u8],
+    second: &mut [u8],
+    third: &mut [u8],
+    fourth: &mut [u8],
+) -> u32
+    requires { ⌜ reading (now netlist) ≡ sound n (pinCount (now netlist)) ⌝ }
+    requires { ⌜ (length (now first) ≡ n) × (length (now second) ≡ n) × (length (now third) ≡ n) × (length (now fourth) ≡ n) ⌝ }
+    ensures { λ _. ⌜ (Alike (netOf (now (netlist .entry))) (linesOf fault) (now (second .entry)) (now (fourth .entry)) → SameOutputs (netOf (now (netlist .entry))) (now (first .exit)) (now (third .exit)) × Alike (netOf (now (netlist .entry))) (linesOf fault) (now (second .exit)) (now (fourth .exit))) ⌝ }
+{
+    let next = draw(random, first);
+    copy(first, third);
+    run_clock(netlist, n, Circuit::Faulty(fault), second, first);
+    run_clock(netlist, n, Circuit::Good, fourth, third);
+    next
+}
+
+// Whether an output differs while both circuits take clocks, each from what it has latched.
+fn run_both(
+    netlist: &[u8],
+    n: u16,
+    fault: Fault,
+    random: u32,
+    first: &mut [u8],
+    second: &mut [u8],
+    third: &mut [u8],
+    fourth: &mut [u8],
+) -> bool
+    requires { ⌜ reading (now netlist) ≡ sound n (pinCount (now netlist)) ⌝ }
+    requires { ⌜ (length (now first) ≡ n) × (length (now second) ≡ n) × (length (now third) ≡ n) × (length (now fourth) ≡ n) ⌝ }
+    ensures { λ r. ⌜ (r ≡ true → Alike (netOf (now (netlist .entry))) (linesOf fault) (now (second .entry)) (now (fourth .entry)) → ⊥) ⌝ }
+{
+    let mut next = random;
+    let mut clocks: u8 = 0;
+    while clocks < CLOCKS {
+        next = step_both(netlist, n, fault, next, first, second, third, fourth);
+        if outputs_differ(netlist, n, first, third) {
+            return true;
+        }
+        clocks += 1;
+    }
+    false
+}
+
+// Whether an output differs once: the faulty circuit takes c clocks from a pseudo-random start, then
+// the good one takes over what it has latched, and both go on.
+fn trial(
+    netlist: &[u8],
+    n: u16,
+    fault: Fault,
+    c: u8,
+    random: u32,
+    first: &mut [u8],
+    second: &mut [u8],
+    third: &mut [u8],
+    fourth: &mut [u8],
+) -> bool
+    requires { ⌜ reading (now netlist) ≡ sound n (pinCount (now netlist)) ⌝ }
+    requires { ⌜ (length (now first) ≡ n) × (length (now second) ≡ n) × (length (now third) ≡ n) × (length (now fourth) ≡ n) ⌝ }
+    ensures { λ r. ⌜ (r ≡ true → Redundant (now (netlist .entry)) fault c → ⊥) ⌝ }
+{
+    let started = draw(random, second);
+    let next = lead_in(netlist, n, fault, c, started, first, second);
+    copy(second, fourth);
+    run_both(netlist, n, fault, next, first, second, third, fourth)
+}
+
+// Whether the fault is seen at an output at or after clock c, in slices of n bytes, whatever they hold.
+pub(crate) fn is_seen(
+    netlist: &[u8],
+    n: u16,
+    fault: Fault,
+    c: u8,
+    first: &mut [u8],
+    second: &mut [u8],
+    third: &mut [u8],
+    fourth: &mut [u8],
+) -> bool
+    requires { ⌜ reading (now netlist) ≡ sound n (pinCount (now netlist)) ⌝ }
+    requires { ⌜ (length (now first) ≡ n) × (length (now second) ≡ n) × (length (now third) ≡ n) × (length (now fourth) ≡ n) ⌝ }
+    ensures { λ r. ⌜ (r ≡ true → Redundant (now (netlist .entry)) fault c → ⊥) ⌝ }
+{
+    let mut trials: u32 = 0;
+    while trials < TRIALS {
+        if trial(netlist, n, fault, c, trials, first, second, third, fourth) {
+            return true;
+        }
+        trials += 1;
     }
     false
 }

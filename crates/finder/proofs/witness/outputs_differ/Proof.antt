@@ -1,3 +1,5 @@
+use Rattle.finder.specs.Alike.{SameOutputs}
+use Rattle.circuit.specs.Netlist.{netOf}
 use native.Mathlib.Omega.{arith}
 use borrow.Author.Needs.{needs}
 use Rattle.finder.proofs.WitnessLaws.{output-apart}
@@ -29,9 +31,10 @@ output-differs-requires c κs = search needs
 
 -- src/witness.rt:118:13
 returns : tie.Need-returns Inv-loop μ-loop
+unfolding SameOutputs netOf
 returns c = let a = c .before .before .before .before .before .before .before .args in
     let k = c .before .before .before .loop .node in
-    λ _ h. output-apart (kindOf (now (a .netlist)) k) (at (now (a .faulty)) k) (at (now (a .good)) k) (sym (c .before .output-differs .ensures) ∙ c .if1 .taken) (h k (c .before .before .loop-test .taken))
+    λ _ h. output-apart (kindOf (now (a .netlist)) k) (at (now (a .faulty)) k) (at (now (a .good)) k) (sym (c .before .output-differs .ensures) ∙ c .if1 .taken) (h k (omega (arith, c .before .before .before .before .before .before .before .pre, c .before .before .loop-test .taken)))
 
 -- src/witness.rt:120:9
 add-node : tie.Need-add-node Inv-loop μ-loop
