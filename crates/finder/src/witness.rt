@@ -20,7 +20,7 @@ use values::byte_at;
 use values::store;
 
 // How often the two circuits are run, each time with other pseudo-random numbers.
-const TRIALS: u32 = 8;
+const TRIALS: u32 = 32;
 
 // How many clocks the good circuit takes beside the faulty one.
 const CLOCKS: u8 = 16;
