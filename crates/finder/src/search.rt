@@ -7,12 +7,13 @@ ghost use lib.Dec.{leb};
 ghost use lib.ListN.{length, replicate, take};
 ghost use Rattle.circuit.specs.Fault.{faultExists};
 ghost use Rattle.circuit.specs.Netlist.{netOf, pinCount, reading, sound};
-ghost use Rattle.finder.specs.Finder.{answerFor, bytesFor, certificateFor, finderCall, finderOutcome, finding, findingSays, firstSplit, found, nothingFound, stepCount, written};
+ghost use Rattle.finder.specs.Finder.{answerFor, bytesFor, certificateFor, finderCall, finderOutcome, finding, findingSays, firstSplit, found, nothingFound, stepCount, tryWindows, written};
 ghost use Rattle.finder.specs.Marks.{IsMark, NoneCloses};
 ghost use Rattle.finder.specs.Work.{NotedStayOpen};
 use crate::branch::closes;
 use crate::branch::work_branch;
 use crate::split::Split;
+use crate::witness::rules_out;
 use crate::writer::write_head;
 use checker::HEAD_LENGTH;
 use checker::STEP_LENGTH;
@@ -31,9 +32,39 @@ pub enum Finding {
     Refused(u8),
 }
 
-// The first split whose two branches close, by c up to b, then frame, then node; where none does, one
-// whose c is above b.
-fn first_split(
+// The first c whose window is searched: a fault that is seen from a clock on has no split that closes
+// for any c up to that clock. Above b where it is seen from clock b on.
+fn first_window(
+    netlist: &[u8],
+    n: u16,
+    fault: Fault,
+    b: u8,
+    f: u8,
+    known: &mut [u8],
+    marks: &mut [u8],
+) -> u8
+    requires { ⌜ reading (now netlist) ≡ sound n (pinCount (now netlist)) ⌝ }
+    requires { ⌜ faultExists (netOf (now netlist)) fault ≡ true ⌝ }
+    requires { ⌜ b + f + 1 ≤ 15 ⌝ }
+    requires { ⌜ (n ≤ length (now known)) × (n ≤ length (now marks)) ⌝ }
+    ensures { λ r. ⌜ (r ≤ b + 1) × (tryWindows (netOf (now (netlist .entry))) fault f r ≡ none) ⌝ }
+{
+    if rules_out(netlist, n, fault, b, known, marks) {
+        return b + 1;
+    }
+    let mut c: u8 = 0;
+    while c < b {
+        if !rules_out(netlist, n, fault, c, known, marks) {
+            return c;
+        }
+        c += 1;
+    }
+    c
+}
+
+// Walks the splits up to the first whose two branches close, by c up to b, then frame, then node;
+// where none does, to one whose c is above b. Splits that were shown to stay open are noted.
+fn walk_splits(
     netlist: &[u8],
     n: u16,
     fault: Fault,
@@ -51,8 +82,9 @@ fn first_split(
     ensures { λ r. ⌜ cond (leb (r .c) b) (some r) none ≡ firstSplit (netOf (now (netlist .entry))) fault f b ⌝ }
     ensures { λ r. ⌜ (r .frame ≤ r .c + f) × (r .node < n) ⌝ }
 {
+    let c = first_window(netlist, n, fault, b, f, known, marks);
     let mut split = Split {
-        c: 0,
+        c,
         frame: 0,
         node: 0,
     };
@@ -63,6 +95,28 @@ fn first_split(
         split = split.next(n, f);
     }
     split
+}
+
+// The first split whose two branches close, by c up to b, then frame, then node; where none does, one
+// whose c is above b.
+fn first_split(
+    netlist: &[u8],
+    n: u16,
+    fault: Fault,
+    b: u8,
+    f: u8,
+    known: &mut [u8],
+    marks: &mut [u8],
+) -> Split
+    requires { ⌜ reading (now netlist) ≡ sound n (pinCount (now netlist)) ⌝ }
+    requires { ⌜ faultExists (netOf (now netlist)) fault ≡ true ⌝ }
+    requires { ⌜ b + f + 1 ≤ 15 ⌝ }
+    requires { ⌜ (length (now known) ≡ n * (b + f + 1)) × (length (now marks) ≡ n * (b + f + 1)) ⌝ }
+    ensures { λ r. ⌜ cond (leb (r .c) b) (some r) none ≡ firstSplit (netOf (now (netlist .entry))) fault f b ⌝ }
+    ensures { λ r. ⌜ (r .frame ≤ r .c + f) × (r .node < n) ⌝ }
+{
+    let mut noted = [0u8; NOTED_LENGTH];
+    walk_splits(netlist, n, fault, b, f, known, marks, &mut noted)
 }
 
 // Writes the certificate of a split whose branches close: branch 1's steps straight after branch
@@ -128,8 +182,7 @@ fn search(
     requires { ⌜ 25 + 14 * (n * (b + f + 1)) ≤ length (now certificate) ⌝ }
     ensures { λ r. ⌜ finderOutcome (findingSays r) (now (known .exit)) (now (marks .exit)) (now (certificate .exit)) ≡ finderOutcome (answerFor (netOf (now (netlist .entry))) fault f (firstSplit (netOf (now (netlist .entry))) fault f b)) (replicate (length (now (known .entry))) 0) (replicate (length (now (marks .entry))) 0) (written (bytesFor (netOf (now (netlist .entry))) fault f (firstSplit (netOf (now (netlist .entry))) fault f b)) (now (certificate .entry))) ⌝ }
 {
-    let mut noted = [0u8; NOTED_LENGTH];
-    let split = first_split(netlist, n, fault, b, f, known, marks, &mut noted);
+    let split = first_split(netlist, n, fault, b, f, known, marks);
     let c = split.c;
     if c > b {
         values::fill(known, 0);

@@ -2,7 +2,7 @@
 // circuit's shows that no certificate is to be had, so the search may be spared.
 ghost use mathlib.Core.Path.{_≡_};
 ghost use mathlib.Core.Bool.{_&&_, not, true};
-ghost use Prim.Native.Nat.{ℕ, _<_};
+ghost use Prim.Native.Nat.{ℕ, _<_, _≤_};
 ghost use lib.Dec.{eqb};
 ghost use lib.ListN.{length};
 ghost use Rattle.values.specs.Kind.{isOutput};
@@ -18,6 +18,9 @@ use values::FLIP_FLOP;
 use values::OUTPUT;
 use values::byte_at;
 use values::store;
+
+// A sound netlist has no more nodes.
+const NODES_AT_MOST: usize = 4096;
 
 // How often the two circuits are run, each time with other pseudo-random numbers.
 const TRIALS: u32 = 32;
@@ -221,7 +224,7 @@ fn trial(
 }
 
 // Whether the fault is seen at an output at or after clock c, in slices of n bytes, whatever they hold.
-pub(crate) fn is_seen(
+fn is_seen(
     netlist: &[u8],
     n: u16,
     fault: Fault,
@@ -243,4 +246,32 @@ pub(crate) fn is_seen(
         trials += 1;
     }
     false
+}
+
+// Whether the fault is seen at or after clock c. The first n bytes of both work slices are taken for it.
+pub(crate) fn rules_out(
+    netlist: &[u8],
+    n: u16,
+    fault: Fault,
+    c: u8,
+    known: &mut [u8],
+    marks: &mut [u8],
+) -> bool
+    requires { ⌜ reading (now netlist) ≡ sound n (pinCount (now netlist)) ⌝ }
+    requires { ⌜ (n ≤ length (now known)) × (n ≤ length (now marks)) ⌝ }
+    ensures { λ r. ⌜ (r ≡ true → Redundant (now (netlist .entry)) fault c → ⊥) ⌝ }
+{
+    let mut third = [0u8; NODES_AT_MOST];
+    let mut fourth = [0u8; NODES_AT_MOST];
+    let end = n as usize;
+    is_seen(
+        netlist,
+        n,
+        fault,
+        c,
+        &mut known[..end],
+        &mut marks[..end],
+        &mut third[..end],
+        &mut fourth[..end],
+    )
 }

@@ -90,9 +90,9 @@ returns-2 c = let a = c .before .before .before .before .before .before .before 
     let t = ap (λ (x : Traced). x .dies) (c .before .before .before .effect-dies .ensures ∙ sym (tracing-long net (linesOf (a .fault)) (a .split .c) (a .f) kn marks (omega (arith, g, k)))) in
     let h : a .split .c + a .f < W = omega arith in
     let e =
-        t
-        ∙ dies-agree net o W kn (known net S (b .values)) (d .ensures .1 .0) (a .f) (a .split .c) (linesOf (a .fault)) [] [] h (λ _ _. refl)
-        ∙ closes-traced net (linesOf (a .fault)) (a .split .c) (a .f) b (sym (d .ensures .0 .0) ∙ c .before .before .before .before .before .before .if1 .left) in
+    t
+    ∙ dies-agree net o W kn (known net S (b .values)) (d .ensures .1 .0) (a .f) (a .split .c) (linesOf (a .fault)) [] [] h (λ _ _. refl)
+    ∙ closes-traced net (linesOf (a .fault)) (a .split .c) (a .f) b (sym (d .ensures .0 .0) ∙ c .before .before .before .before .before .before .if1 .left) in
     (sym (c .if2 .taken) ∙ e, c .before .before .before .before .before .before .before .before .before .before .before .before .before .before .before .before .before .before .pre .1 .1 .1 .1)
 
 -- src/branch.rt:101:5
@@ -132,9 +132,9 @@ returns-3 c = let a = c .before .before .before .before .before .before .before 
     let t = ap (λ (x : Traced). x .dies) (c .before .before .before .before .before .before .before .before .effect-dies .ensures ∙ sym (tracing-long net (linesOf (a .fault)) (a .split .c) (a .f) kn marks (omega (arith, g, k)))) in
     let h : a .split .c + a .f < W = omega arith in
     let e =
-        t
-        ∙ dies-agree net o W kn (known net S (b .values)) (d .ensures .1 .0) (a .f) (a .split .c) (linesOf (a .fault)) [] [] h (λ _ _. refl)
-        ∙ closes-traced net (linesOf (a .fault)) (a .split .c) (a .f) b (sym (d .ensures .0 .0) ∙ c .before .before .before .before .before .before .before .before .before .before .before .if1 .left) in
+    t
+    ∙ dies-agree net o W kn (known net S (b .values)) (d .ensures .1 .0) (a .f) (a .split .c) (linesOf (a .fault)) [] [] h (λ _ _. refl)
+    ∙ closes-traced net (linesOf (a .fault)) (a .split .c) (a .f) b (sym (d .ensures .0 .0) ∙ c .before .before .before .before .before .before .before .before .before .before .before .if1 .left) in
     let q = sym (c .before .before .before .before .before .if2 .left) ∙ e in
     let i = c .before .before .before .before .before .before .before .before .before .before .before .before .before .before .before .before .before .before .before .before .before .before .before .pre .1 .1 .0 in
     let noted = notes-branch net o (a .fault) (a .f) (a .split) (a .v) (omega (arith, size, i .2)) (i .1) (i .3) (sym q) (d .last .1 .1 .1 .1 .1 .1 .0) (now (a .noted)) (c .before .before .note-known .last .1 .1 .0) (d .ensures .1 .0) (c .before .before .note-known .ensures) (c .before .before .before .before .before .before .before .before .before .before .before .before .before .before .before .before .before .before .before .before .before .before .before .pre .1 .1 .1 .1) in

@@ -55,8 +55,8 @@ loop-again c = let a = c .before .before .before .before .before .before .args i
     (λ w. (
       ap length (w .5) ∙ w .2 .kept .0 ∙ l .inv .0,
       λ p.
-      subst (λ (x : List ℕ). Noted k (a .c) (now (a .noted)) x p) (sym (w .5 ∙ w .2 .ensures))
-      (noted-more k (a .c) (now (a .noted)) (l .noted) (l .place) (omega (arith, c .before .byte-at .ensures, w .0 .taken)) (l .inv .1) p),
+          subst (λ (x : List ℕ). Noted k (a .c) (now (a .noted)) x p) (sym (w .5 ∙ w .2 .ensures))
+          (noted-more k (a .c) (now (a .noted)) (l .noted) (l .place) (omega (arith, c .before .byte-at .ensures, w .0 .taken)) (l .inv .1) p),
     ))
     (λ w. (ap length (w .1) ∙ l .inv .0, λ p. subst (λ (x : List ℕ). Noted k (a .c) (now (a .noted)) x p) (sym (w .1)) (l .inv .1 p)))
     (c .if1 .came)
