@@ -9,6 +9,7 @@ pub mod CountingLaws
 pub mod FirstLaws
 pub mod FoundLaws
 pub mod WorkLaws
+pub mod CalmLaws
 pub mod KnownPinLaws
 pub mod StandsLaws
 pub mod OpenSets

@@ -1,19 +1,21 @@
 -- The sweeps on lent bytes: what the contracts of the functions beneath `find` speak of. Nothing of what the finder answers rests on it.
-use mathlib.Core.Bool.{Bool, false, not}
+use mathlib.Core.Bool.{Bool, false, not, true}
 use mathlib.Core.List.{List, [], _∷_}
 use mathlib.Core.Logic.{_⊎_}
 use mathlib.Core.Path.{_≡_}
-use Prim.Native.Nat.{_*_, _+_, _<_, ℕ}
+use Prim.Native.Nat.{_*_, _+_, _<_, pred, ℕ}
+use lib.ListN.{set}
 use lib.Seq.{sets}
 use Rattle.values.specs.Lists.{at}
 use Rattle.values.specs.Value.{isUnknown}
+use Rattle.circuit.specs.Fault.{StuckLines}
 use Rattle.circuit.specs.Netlist.{Net}
 use Rattle.circuit.specs.declared.fault.Fault.{Fault}
 use Rattle.checker.specs.Trace.{mark}
 use Rattle.checker.specs.Window.{enterAt, knownIn}
 use Rattle.checker.specs.declared.step.Step.{Step}
 use Rattle.finder.specs.Finder.{splitCloses}
-use Rattle.finder.specs.Sweeps.{BranchState}
+use Rattle.finder.specs.Sweeps.{BranchState, sweepFrame}
 use Rattle.finder.specs.Written.{stepBytes}
 use Rattle.finder.specs.declared.split.Split.{Split}
 
@@ -44,6 +46,15 @@ unknowns (v ∷ vs) = mark (isUnknown v) + unknowns vs
 -- the steps made and those that may come: a place for each unknown value, and one more while the branch is open
 unfoldable pub tally : Work → ℕ
 tally w = w .steps + unknowns (w .known) + mark (not (w .closed))
+
+-- Calm frames, a byte for each, 0 where nothing is said: the sweep of a calm frame changes nothing.
+unfoldable pub CalmFrames : Net → (ℕ → StuckLines) → List ℕ → Work → Type 0
+CalmFrames net S calm w = (t : ℕ) → 0 < at calm t → sweepFrame (inBytes (net .size)) net S t w ≡ w
+
+-- What is noted after frame t was swept: it is calm where it made no step; else neither it nor its neighbours are.
+unfoldable pub frameNoted : List ℕ → ℕ → Bool → List ℕ
+frameNoted calm t true = set calm t 1
+frameNoted calm t false = set (set (set calm (pred t) 0) t 0) (t + 1) 0
 
 -- A place of the notes after a branch of the window of c was noted: as it was, or c + 1 where the branch knows a value.
 unfoldable pub Noted : List ℕ → ℕ → List ℕ → List ℕ → ℕ → Type 0

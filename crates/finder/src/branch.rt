@@ -18,7 +18,8 @@ use circuit::Fault;
 use values::UNKNOWN;
 
 // Works out the branch of a split that has the value v, and writes its steps into the run, as far
-// as that has room. A sweep without a step ends it, and so does a contradiction.
+// as that has room. A sweep without a step ends it, and so does a contradiction. At first no frame
+// is calm.
 pub(crate) fn work_branch(
     netlist: &[u8],
     n: u16,
@@ -40,11 +41,12 @@ pub(crate) fn work_branch(
     let w = split.c + f + 1;
     let closed = checker::begin_branch(netlist, fault, split.c, split.node, split.frame, v, known);
     let mut done = Progress { steps: 0, closed };
+    let mut calm = [0u8; 15];
     let most = n as usize * w as usize + 1;
     let mut made: usize = 0;
     while made < most {
         let before = done.steps;
-        done = sweep_window(netlist, n, w, fault, split.c, known, run, done);
+        done = sweep_window(netlist, n, w, fault, split.c, &mut calm, known, run, done);
         if done.closed {
             return done;
         }

@@ -7,13 +7,14 @@ ghost use lib.Dec.{ltb};
 ghost use lib.ListN.{length};
 ghost use Rattle.circuit.specs.Fault.{linesOf};
 ghost use Rattle.values.specs.Lists.{at};
-ghost use Rattle.circuit.specs.Netlist.{kindOf, lengthOf, netOf, sourceOf};
+ghost use Rattle.circuit.specs.Netlist.{kindOf, lengthOf, netOf, pinCount, reading, sound, sourceOf};
 ghost use Rattle.checker.specs.Window.{pinFrame, presentBelow};
 ghost use Rattle.finder.specs.Sweeps.{rising, sweep, sweepFrame, tryLine, useRelation};
-ghost use Rattle.finder.specs.Work.{inBytes, tally, work};
+ghost use Rattle.finder.specs.Work.{CalmFrames, frameNoted, inBytes, tally, work};
 use crate::writer::put_step;
 use checker::STEP_LENGTH;
 use circuit::Fault;
+use values::FLIP_FLOP;
 use values::UNKNOWN;
 
 // How far a branch has come: the steps made, and whether a contradiction was met.
@@ -217,25 +218,72 @@ fn sweep_frame(
     done
 }
 
-// One sweep, by rising frame, in a window of w frames.
+// Notes what the sweep of a frame has shown. Without a step the frame is calm: it would make none
+// again. A step tells something new of the frame or the one before, and each frame reads itself and
+// the one before: so the frame and both its neighbours may have something to conclude.
+fn note_frame(calm: &mut [u8], frame: u8, still: bool)
+    ensures { λ _. ⌜ now (calm .exit) ≡ frameNoted (now (calm .entry)) frame still ⌝ }
+{
+    let place = frame as usize;
+    if still {
+        values::store(calm, place, 1);
+        return;
+    }
+    let before = checker::pin_frame(FLIP_FLOP, frame);
+    values::store(calm, before as usize, 0);
+    values::store(calm, place, 0);
+    values::store(calm, place + 1, 0);
+}
+
+// Uses the relations at a frame, unless it is calm: then there is no step to make.
+fn sweep_unless_calm(
+    netlist: &[u8],
+    n: u16,
+    fault: Fault,
+    c: u8,
+    frame: u8,
+    calm: &mut [u8],
+    known: &mut [u8],
+    run: &mut [u8],
+    progress: Progress,
+) -> Progress
+    requires { ⌜ reading (now netlist) ≡ sound n (pinCount (now netlist)) ⌝ }
+    requires { ⌜ tally (work (now known) (now run) (progress .steps) (progress .closed)) ≤ 1048576 ⌝ }
+    requires { ⌜ CalmFrames (netOf (now netlist)) (presentBelow c (linesOf fault)) (now calm) (work (now known) (now run) (progress .steps) (progress .closed)) ⌝ }
+    ensures { λ r. ⌜ work (now (known .exit)) (now (run .exit)) (r .steps) (r .closed) ≡ sweepFrame (inBytes (netOf (now (netlist .entry)) .size)) (netOf (now (netlist .entry))) (presentBelow c (linesOf fault)) frame (work (now (known .entry)) (now (run .entry)) (progress .steps) (progress .closed)) ⌝ }
+    ensures { λ r. ⌜ CalmFrames (netOf (now (netlist .entry))) (presentBelow c (linesOf fault)) (now (calm .exit)) (work (now (known .exit)) (now (run .exit)) (r .steps) (r .closed)) ⌝ }
+{
+    if values::byte_at(calm, frame as usize) > 0 {
+        return progress;
+    }
+    let before = progress.steps;
+    let done = sweep_frame(netlist, n, fault, c, frame, known, run, progress);
+    note_frame(calm, frame, done.steps == before);
+    done
+}
+
+// One sweep, by rising frame, in a window of w frames; those that are calm are left out.
 pub(crate) fn sweep_window(
     netlist: &[u8],
     n: u16,
     w: u8,
     fault: Fault,
     c: u8,
+    calm: &mut [u8],
     known: &mut [u8],
     run: &mut [u8],
     progress: Progress,
 ) -> Progress
-    requires { ⌜ n ≡ netOf (now netlist) .size ⌝ }
+    requires { ⌜ reading (now netlist) ≡ sound n (pinCount (now netlist)) ⌝ }
     requires { ⌜ tally (work (now known) (now run) (progress .steps) (progress .closed)) ≤ 1048576 ⌝ }
+    requires { ⌜ CalmFrames (netOf (now netlist)) (presentBelow c (linesOf fault)) (now calm) (work (now known) (now run) (progress .steps) (progress .closed)) ⌝ }
     ensures { λ r. ⌜ work (now (known .exit)) (now (run .exit)) (r .steps) (r .closed) ≡ sweep (inBytes (netOf (now (netlist .entry)) .size)) (netOf (now (netlist .entry))) (presentBelow c (linesOf fault)) w (work (now (known .entry)) (now (run .entry)) (progress .steps) (progress .closed)) ⌝ }
+    ensures { λ r. ⌜ CalmFrames (netOf (now (netlist .entry))) (presentBelow c (linesOf fault)) (now (calm .exit)) (work (now (known .exit)) (now (run .exit)) (r .steps) (r .closed)) ⌝ }
 {
     let mut done = progress;
     let mut frame: u8 = 0;
     while frame < w {
-        done = sweep_frame(netlist, n, fault, c, frame, known, run, done);
+        done = sweep_unless_calm(netlist, n, fault, c, frame, calm, known, run, done);
         frame += 1;
     }
     done
