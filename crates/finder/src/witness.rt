@@ -23,7 +23,7 @@ use values::store;
 const NODES_AT_MOST: usize = 4096;
 
 // How often the two circuits are run, each time with other pseudo-random numbers.
-const TRIALS: u32 = 32;
+const TRIALS: u32 = 4;
 
 // How many clocks the good circuit takes beside the faulty one.
 const CLOCKS: u8 = 16;

@@ -10,10 +10,10 @@ use Rattle.finder.proofs.witness.is_seen.Lts as lts
 use Rattle.finder.proofs.witness.trial.Reads as trial-reads
 
 abbrev Inv-loop : tie.InvT-loop
-Inv-loop netlist n fault c first₀ second₀ third₀ fourth₀ trials₀ first second third fourth trials = ((length first ≡ n) × (length second ≡ n) × (length third ≡ n) × (length fourth ≡ n)) × (trials ≤ 32)
+Inv-loop netlist n fault c first₀ second₀ third₀ fourth₀ trials₀ first second third fourth trials = ((length first ≡ n) × (length second ≡ n) × (length third ≡ n) × (length fourth ≡ n)) × (trials ≤ 4)
 
 abbrev μ-loop : tie.MeasureT-loop
-μ-loop netlist n fault c first₀ second₀ third₀ fourth₀ trials₀ first second third fourth trials = 32 - trials
+μ-loop netlist n fault c first₀ second₀ third₀ fourth₀ trials₀ first second third fourth trials = 4 - trials
 
 -- src/witness.rt:239:5
 loop-holds : tie.Need-loop-holds Inv-loop μ-loop
