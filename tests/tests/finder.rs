@@ -46,6 +46,10 @@ impl Met {
         assert!(self.none >= none, "none was answered too rarely");
     }
 
+    fn assert_total(&self, at_least: u64) {
+        assert!(self.total() >= at_least, "only {} calls", self.total());
+    }
+
     /// Fails unless each of these c was answered so many times.
     fn assert_found_at(&self, cs: &[u64], at_least: u64) {
         for c in cs {
@@ -96,7 +100,7 @@ fn every_fault(netlist: &[u8]) -> Vec<Fault> {
 #[test]
 fn small_circuits() {
     let mut met = Met::default();
-    run("small", 55_000, |_, random| {
+    run("small", 550_000, |_, random| {
         let draft = small::any(random);
         let fault = match random.below(100) {
             0 => a_foreign_fault(random, &draft),
@@ -106,18 +110,29 @@ fn small_circuits() {
         let request = Request { fault, b, f };
         met.count(find(random, &draft.to_bytes(), request));
     });
-    met.assert_found_and_none(10_000, 10_000);
-    met.assert_found_at(&[0, 1], 1_000);
-    met.assert_found_at(&[2], 50);
-    met.assert_refused(&[9, 10, 11, 12], 100);
-    assert!(met.total() >= 50_000, "only {} calls", met.total());
+    met.assert_found_and_none(100_000, 100_000);
+    met.assert_found_at(&[0, 1], 10_000);
+    met.assert_found_at(&[2], 500);
+    met.assert_found_at(&[3], 20);
+    met.assert_refused(&[9, 10, 11, 12], 1_000);
+    met.assert_total(550_000);
+}
+
+/// One circuit of each plan, with this many nodes.
+fn planned(nodes: u16) -> Vec<Draft> {
+    let mut drafts = structured::all(nodes);
+    if nodes >= 5 {
+        drafts.extend(structured::with_outputs(nodes));
+    }
+    drafts
 }
 
 #[test]
 fn every_fault_of_planned_circuits() {
+    let sizes: Vec<u16> = (2..=20).chain([25, 30, 40, 60]).collect();
     let mut met = Met::default();
-    run("planned", 8, |case, random| {
-        for draft in structured::all(2 + case as u16) {
+    run("planned", sizes.len() as u64, |case, random| {
+        for draft in planned(sizes[case as usize]) {
             let netlist = draft.to_bytes();
             for fault in every_fault(&netlist) {
                 for (b, f) in [(0, 0), (1, 1), (3, 0), (0, 3)] {
@@ -127,76 +142,122 @@ fn every_fault_of_planned_circuits() {
             }
         }
     });
-    met.assert_found_and_none(1_000, 1_000);
+    met.assert_found_and_none(40_000, 40_000);
+    met.assert_found_at(&[0, 1], 1_000);
+    met.assert_found_at(&[2, 3], 50);
+    met.assert_total(100_000);
+}
+
+#[test]
+fn wide_windows_of_planned_circuits() {
+    let mut met = Met::default();
+    run("wide windows", 500, |_, random| {
+        let nodes = random.between(30, 60) as u16;
+        let drafts = planned(nodes);
+        let draft = &drafts[random.below(drafts.len())];
+        let fault = a_fault(random, draft);
+        let (b, f) = random.pick(&[(2, 2), (4, 3), (5, 5), (7, 7), (14, 0), (0, 14), (3, 9)]);
+        let request = Request { fault, b, f };
+        met.count(find_in_just_enough(random, &draft.to_bytes(), request));
+    });
+    met.assert_found_and_none(150, 150);
+    met.assert_found_at(&[0, 1], 10);
+    met.assert_total(500);
+}
+
+/// Finds one fault with every B and F that are not too large together.
+fn find_in_every_window(random: &mut Random, netlist: &[u8], fault: Fault, met: &mut Met) {
+    for b in 0..15 {
+        for f in 0..15 - b {
+            let request = Request { fault, b, f };
+            met.count(find_in_just_enough(random, netlist, request));
+        }
+    }
 }
 
 #[test]
 fn every_b_and_f_of_a_window_that_is_not_too_wide() {
-    let netlists = [
+    let worked = [
         worked::INPUT.to_vec(),
         worked::SELF_FED.to_vec(),
         worked::and_twice(),
         worked::p1(),
     ];
     let mut met = Met::default();
-    run("windows", netlists.len() as u64, |case, random| {
-        let netlist = &netlists[case as usize];
+    run("windows", worked.len() as u64, |case, random| {
+        let netlist = &worked[case as usize];
         for fault in every_fault(netlist) {
-            for b in 0..15 {
-                for f in 0..15 - b {
-                    let request = Request { fault, b, f };
-                    met.count(find_in_just_enough(random, netlist, request));
-                }
-            }
+            find_in_every_window(random, netlist, fault, &mut met);
         }
     });
     met.assert_found_and_none(500, 500);
+    run("windows of small circuits", 380, |_, random| {
+        let draft = small::any(random);
+        let fault = a_fault(random, &draft);
+        find_in_every_window(random, &draft.to_bytes(), fault, &mut met);
+    });
+    met.assert_found_and_none(5_000, 5_000);
+    met.assert_total(50_000);
     assert!(met.refused.is_empty());
 }
 
 #[test]
 fn windows_that_are_too_wide() {
-    let netlist = worked::and_twice();
-    let faults = every_fault(&netlist);
     let wide = [1, 7, 8, 14, 15, 16, 127, 128, 254, 255];
-    run("too wide", 10, |case, random| {
-        let large = wide[case as usize];
+    run("too wide", 100, |case, random| {
+        let draft = small::any(random);
+        let large = wide[case as usize % wide.len()];
         for small in 15 - large.min(15)..=16 {
-            let fault = random.pick(&faults);
+            let fault = a_fault(random, &draft);
             for (b, f) in [(large, small), (small, large)] {
                 let request = Request { fault, b, f };
-                assert_eq!(find_in_just_enough(random, &netlist, request), 10);
+                let answer = find_in_just_enough(random, &draft.to_bytes(), request);
+                assert_eq!(answer, 10);
             }
         }
     });
 }
 
-/// Two shift registers of this depth from one input, an AND of their ends, and
-/// its output.
-fn twin_registers(depth: u16) -> Draft {
+/// Equal shift registers of this depth from one input, a gate of their ends,
+/// and its output.
+fn equal_registers(registers: u16, depth: u16, kind: u8) -> Draft {
     let mut draft = Draft::of(&[(kind::INPUT, &[])]);
-    for start in [0, depth] {
+    for register in 0..registers {
         draft.push(kind::FLIP_FLOP, &[0]);
         for stage in 1..depth {
-            draft.push(kind::FLIP_FLOP, &[start + stage]);
+            draft.push(kind::FLIP_FLOP, &[register * depth + stage]);
         }
     }
-    draft.push(kind::AND, &[depth, 2 * depth]);
-    draft.push(kind::OUTPUT, &[2 * depth + 1]);
+    let ends: Vec<u16> = (1..=registers).map(|register| register * depth).collect();
+    draft.push(kind, &ends);
+    draft.push(kind::OUTPUT, &[registers * depth + 1]);
     draft
 }
 
 #[test]
 fn the_smallest_c_is_answered() {
-    run("depths", 14, |case, random| {
-        // The ends are the same from the clock on in which both show what the
+    // Each gate with the value at which a pin is redundant beside an equal one.
+    let gates = [
+        (kind::AND, 1),
+        (kind::NAND, 1),
+        (kind::OR, 0),
+        (kind::NOR, 0),
+    ];
+    // How many registers, and the pin that is faulted.
+    let pins = [(2, 0), (2, 1), (3, 1)];
+    let places = (gates.len() * pins.len()) as u64;
+    run("depths", 14 * places, |case, random| {
+        // The ends are the same from the clock on in which all show what the
         // input was when the faulty circuit started.
-        let depth = 1 + case as u8;
-        let netlist = twin_registers(depth.into()).to_bytes();
+        let depth = 1 + (case / places) as u8;
+        let place = (case % places) as usize;
+        let (kind, u) = gates[place % gates.len()];
+        let (registers, pin) = pins[place / gates.len()];
+        let netlist = equal_registers(registers, depth.into(), kind).to_bytes();
         let fault = Fault {
-            node: 2 * u16::from(depth) + 1,
-            site: Site::Pin(random.bit()),
-            u: 1,
+            node: registers * u16::from(depth) + 1,
+            site: Site::Pin(pin),
+            u,
         };
         let mut find = |b, f| {
             let request = Request { fault, b, f };
@@ -236,7 +297,7 @@ fn damaged_call(random: &mut Random, draft: &Draft, numbers: &[u64]) -> (Request
 fn the_smallest_of_several_damages_is_the_refusal() {
     let mut met = Met::default();
     // Every set of damages there is, the empty one included.
-    run("damages", 16 * 200, |case, random| {
+    run("damages", 16 * 2_000, |case, random| {
         let numbers = (0..4).filter(|bit| case >> bit & 1 == 1);
         let numbers: Vec<u64> = numbers.map(|bit| 9 + bit).collect();
         let draft = small::any(random);
@@ -249,13 +310,14 @@ fn the_smallest_of_several_damages_is_the_refusal() {
         }
         met.count(answer);
     });
-    met.assert_found_and_none(20, 20);
-    met.assert_refused(&[9, 10, 11, 12], 100);
+    met.assert_found_and_none(200, 200);
+    met.assert_refused(&[9, 10, 11, 12], 1_000);
+    met.assert_total(32_000);
 }
 
 #[test]
 fn netlists_that_are_not_sound() {
-    run("unsound", 3_500, |case, random| {
+    run("unsound", 35_000, |case, random| {
         let number = 1 + case % 7;
         let nodes = random.between(1, 12);
         let netlist = damaged::with(random, nodes, &[number as u8]);
@@ -278,7 +340,7 @@ fn netlists_that_are_not_sound() {
 #[test]
 fn middling_circuits() {
     let mut met = Met::default();
-    run("middling", 1_500, |_, random| {
+    run("middling", 15_000, |_, random| {
         let nodes = random.between(13, 40);
         let draft = sound::random(random, nodes);
         let fault = a_fault(random, &draft);
@@ -286,7 +348,9 @@ fn middling_circuits() {
         let request = Request { fault, b, f };
         met.count(find(random, &draft.to_bytes(), request));
     });
-    met.assert_found_and_none(300, 300);
+    met.assert_found_and_none(3_000, 3_000);
+    met.assert_found_at(&[0, 1, 2], 20);
+    met.assert_total(15_000);
 }
 
 fn example(name: &str) -> Vec<u8> {
@@ -297,22 +361,36 @@ fn example(name: &str) -> Vec<u8> {
 #[test]
 fn every_fault_of_the_small_examples() {
     let mut random = Random::new(5);
-    // Bounds, and how many faults are found.
-    for (name, b, f, found) in [
-        ("and2.net", 0, 0, 2),
-        ("p1.net", 1, 0, 3),
-        ("ffself.net", 1, 0, 4),
-        ("s27.net", 3, 1, 0),
-        ("mix30.net", 2, 1, 12),
-        ("random30.net", 2, 1, 96),
+    let bounds = [
+        (0, 0),
+        (0, 1),
+        (1, 0),
+        (1, 1),
+        (2, 0),
+        (2, 1),
+        (3, 0),
+        (0, 3),
+        (3, 1),
+        (2, 3),
+    ];
+    // How many faults are found with each of these bounds.
+    for (name, found) in [
+        ("and2.net", [2; 10]),
+        ("p1.net", [0, 1, 3, 4, 3, 4, 3, 1, 4, 4]),
+        ("ffself.net", [0, 0, 4, 4, 4, 4, 4, 0, 4, 4]),
+        ("s27.net", [0; 10]),
+        ("mix30.net", [11, 11, 12, 12, 12, 12, 12, 11, 12, 12]),
+        ("random30.net", [43, 43, 54, 60, 88, 96, 88, 43, 96, 96]),
     ] {
         let netlist = example(name);
-        let mut met = Met::default();
-        for fault in every_fault(&netlist) {
-            let request = Request { fault, b, f };
-            met.count(find_in_just_enough(&mut random, &netlist, request));
+        for ((b, f), found) in bounds.into_iter().zip(found) {
+            let mut met = Met::default();
+            for fault in every_fault(&netlist) {
+                let request = Request { fault, b, f };
+                met.count(find_in_just_enough(&mut random, &netlist, request));
+            }
+            assert_eq!(met.found_at_all(), found, "{name}, B {b}, F {f}");
         }
-        assert_eq!(met.found_at_all(), found, "{name}");
     }
 }
 
@@ -323,18 +401,20 @@ fn some_faults_of_the_large_examples() {
         let netlist = example(name);
         let faults = every_fault(&netlist);
         println!("{name}");
-        run("large example", 20, |_, random| {
+        run("large example", 200, |_, random| {
             let fault = random.pick(&faults);
             let (b, f) = (random.below(3) as u8, random.below(2) as u8);
             let request = Request { fault, b, f };
             met.count(find_in_just_enough(random, &netlist, request));
         });
     }
-    met.assert_found_and_none(3, 20);
+    met.assert_found_and_none(50, 500);
+    met.assert_found_at(&[0, 1], 5);
+    met.assert_total(800);
 }
 
 #[test]
-fn one_of_the_longest_certificates() {
+fn the_longest_certificates() {
     // A flip-flop fed by itself, an AND of it twice, a chain and an output:
     // each line but the split is a step, in both branches.
     let mut draft = Draft::of(&[(kind::FLIP_FLOP, &[0]), (kind::AND, &[0, 0])]);
@@ -342,39 +422,49 @@ fn one_of_the_longest_certificates() {
         draft.push(kind::NOT, &[node - 1]);
     }
     draft.push(kind::OUTPUT, &[4_094]);
+    let netlist = draft.to_bytes();
     let (node, site, u) = (1, Site::Pin(0), 1);
-    let request = Request {
-        fault: Fault { node, site, u },
-        b: 0,
-        f: 14,
-    };
-    let answer = find_in_just_enough(&mut Random::new(6), &draft.to_bytes(), request);
-    assert_eq!(answer, found_number(0, 25 + 14 * (4_096 * 15 - 1)));
+    let fault = Fault { node, site, u };
+    run("longest", 15, |case, random| {
+        let f = case as u8;
+        let request = Request {
+            fault,
+            b: 14 - f,
+            f,
+        };
+        let answer = find_in_just_enough(random, &netlist, request);
+        let lines = 4_096 * (case as usize + 1);
+        assert_eq!(answer, found_number(0, 25 + 14 * (lines - 1)));
+    });
 }
 
 #[test]
-fn a_split_at_a_node_above_255() {
-    // Inputs, an AND of the last one twice, and its output: only that input
-    // and what hangs on it tell of the AND's pin.
-    let mut draft = Draft::default();
-    for _ in 0..600 {
-        draft.push(kind::INPUT, &[]);
-    }
-    draft.push(kind::AND, &[599, 599]);
-    draft.push(kind::OUTPUT, &[600]);
-    let netlist = draft.to_bytes();
-    let (node, site, u) = (600, Site::Pin(1), 1);
-    let request = Request {
-        fault: Fault { node, site, u },
-        b: 1,
-        f: 0,
-    };
-    let mut random = Random::new(7);
-    let needed = request.slice_lengths(602);
-    let slices = needed.map(|length| random.bytes(length));
-    let slices = slices.each_ref().map(Vec::as_slice);
-    let (answer, certificate) = compare::find(&mut random, &netlist, request, slices);
-    // In both branches the AND and the output follow.
-    assert_eq!(answer, found_number(0, 25 + 4 * 7));
-    assert_eq!(certificate[..9], [88, 2, 1, 1, 0, 0, 87, 2, 0]);
+fn splits_at_nodes_above_255() {
+    let counts = [256, 257, 258, 300, 511, 512, 513, 600, 1_024, 1_025];
+    run("far splits", counts.len() as u64, |case, random| {
+        // Inputs, an AND of the last one twice, and its output: only that input
+        // and what hangs on it tell of the AND's pin.
+        let inputs: u16 = counts[case as usize];
+        let mut draft = Draft::default();
+        for _ in 0..inputs {
+            draft.push(kind::INPUT, &[]);
+        }
+        draft.push(kind::AND, &[inputs - 1, inputs - 1]);
+        draft.push(kind::OUTPUT, &[inputs]);
+        let (node, site, u) = (inputs, Site::Pin(1), 1);
+        let request = Request {
+            fault: Fault { node, site, u },
+            b: 1,
+            f: 0,
+        };
+        let needed = request.slice_lengths(draft.nodes.len());
+        let slices = needed.map(|length| random.bytes(length));
+        let slices = slices.each_ref().map(Vec::as_slice);
+        let (answer, certificate) = compare::find(random, &draft.to_bytes(), request, slices);
+        // In both branches the AND and the output follow.
+        assert_eq!(answer, found_number(0, 25 + 4 * 7));
+        let ([low, high], split) = (inputs.to_le_bytes(), (inputs - 1).to_le_bytes());
+        let head = [low, high, 1, 1, 0, 0, split[0], split[1], 0];
+        assert_eq!(certificate[..9], head);
+    });
 }
