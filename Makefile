@@ -3,7 +3,7 @@ NETLIST ?= examples/and2.net
 B ?= 0
 F ?= 0
 
-.PHONY: run test bench fmt tools clean
+.PHONY: run test bench plot fmt tools clean
 
 # Prints the report on NETLIST: the faults marked with c up to B, with F frames behind the fault frame.
 run: tools
@@ -14,10 +14,17 @@ run: tools
 test: tools
 	@scripts/test
 
-# Times the library against the Rust model, in one run.
+# Times the library against the Rust model, in one run, and writes what is plotted to target/performance.dat.
 bench: tools
 	@scripts/build-library capi
 	@cd bench && cargo run --release --offline --quiet
+
+# Draws docs/performance.svg from the last run of the benchmark; where there is none, it is run.
+plot: target/performance.dat
+	@scripts/plot
+
+target/performance.dat:
+	@$(MAKE) --no-print-directory bench
 
 fmt: tools
 	rt fmt

@@ -1,161 +1,39 @@
-//! Times the library against the Rust model on the same calls and prints two
-//! tables, one of them for whole reports. Ends with status 1 if the library
-//! takes more than a limit.
+//! Times the library against the Rust model: single calls, and whole reports,
+//! in which the model's finder follows the definition to the letter. Ends with
+//! status 1 if the library misses a limit.
 
+mod calls;
 mod checks;
+mod growth;
 mod measure;
 mod reports;
+mod tables;
 mod work;
 
-use checks::Checks;
-use measure::{compare, Pair};
-use reports::Timed;
+use reports::{Case, Timed};
 use std::process::ExitCode;
-use work::Work;
-
-/// How many times the model's time the library may take for a call, and for a
-/// whole report.
-const LIMIT: f64 = 2.0;
-const REPORT_LIMIT: f64 = 1.5;
-
-/// Repetitions of each way to do a call.
-const REPETITIONS: usize = 101;
-
-/// Node and pin counts; the second are the greatest that a netlist may have.
-const SIZES: [(usize, usize); 2] = [(300, 1_200), (4_096, 16_384)];
-
-/// Steps of a certificate, about.
-const STEPS: [usize; 2] = [1_000, 10_000];
-
-/// Example circuits that are reported, with the repetitions: a report of the
-/// second takes some seconds.
-const REPORTS: [(&str, usize); 2] = [("mix30", 21), ("mix100", 3)];
-
-struct Row {
-    part: &'static str,
-    circuits: usize,
-    nodes: usize,
-    pins: usize,
-    /// None where no certificate is checked.
-    steps: Option<usize>,
-    times: Pair,
-}
-
-impl Row {
-    /// What the time of a call is shared out among.
-    fn items(&self) -> usize {
-        self.steps.unwrap_or(self.nodes + self.pins)
-    }
-}
 
 fn main() -> ExitCode {
-    let mut rows: Vec<Row> = SIZES.into_iter().flat_map(measure_size).collect();
-    rows.extend(STEPS.map(measure_checks));
-    let reports = REPORTS.map(|(circuit, repetitions)| Timed::new(circuit, repetitions));
-    print_heading();
-    rows.iter().for_each(print_row);
-    reports::print_heading(REPORT_LIMIT);
-    reports.iter().for_each(Timed::print);
-    let calls_fit = rows.iter().all(|row| row.times.ratio() <= LIMIT);
-    let reports_fit = reports.iter().all(|row| row.times.ratio() <= REPORT_LIMIT);
+    let calls = calls::measure();
+    calls::print(&calls);
+    let reports: Vec<Timed> = reports::CASES.iter().map(measure).collect();
+    tables::print_limits(&reports);
+    growth::print(&reports);
+    growth::write(&reports);
+    let calls_fit = calls.iter().all(calls::Row::is_within_limit);
+    let reports_fit = reports.iter().all(Timed::is_within_limit);
+    println!();
     if !(calls_fit && reports_fit) {
-        println!("above the limit of {LIMIT:.2}, or of {REPORT_LIMIT:.2} for reports");
+        println!("a limit is missed");
         return ExitCode::FAILURE;
     }
-    println!("within the limit of {LIMIT:.2}, and of {REPORT_LIMIT:.2} for reports");
+    println!("every limit is kept");
     ExitCode::SUCCESS
 }
 
-/// Times the reader and the simulator on circuits of one size.
-fn measure_size((nodes, pins): (usize, usize)) -> [Row; 2] {
-    let (mut model, mut library) = (Work::new(nodes, pins), Work::new(nodes, pins));
-    let circuits = model.circuit_count();
-    let read = compare(
-        || library.read_with_library(),
-        || model.read_with_model(),
-        circuits,
-        REPETITIONS,
-    );
-    let simulate = compare(
-        || library.simulate_with_library(),
-        || model.simulate_with_model(),
-        circuits,
-        REPETITIONS,
-    );
-    assert!(library == model, "library and model left different slices");
-    [("read", read), ("simulate", simulate)].map(|(part, times)| Row {
-        part,
-        circuits,
-        nodes,
-        pins,
-        steps: None,
-        times,
-    })
-}
-
-/// Times the checker on certificates of about so many steps.
-fn measure_checks(about_steps: usize) -> Row {
-    let (mut model, mut library) = (Checks::new(about_steps), Checks::new(about_steps));
-    let circuits = model.certificate_count();
-    let times = compare(
-        || library.check_with_library(),
-        || model.check_with_model(),
-        circuits,
-        REPETITIONS,
-    );
-    assert!(library == model, "library and model left different slices");
-    Row {
-        part: "check",
-        circuits,
-        nodes: model.nodes,
-        pins: model.pins,
-        steps: Some(model.steps),
-        times,
-    }
-}
-
-fn print_heading() {
-    println!("Library against Rust model; the limit of the ratio is {LIMIT:.2}.");
-    println!("Processor time of a call on random circuits, each with a fault; the median of");
-    println!(
-        "{REPETITIONS} repetitions, in which library and model take turns. The slices are not"
-    );
-    println!("cleared first: a step starts from what the step before left in them.");
-    println!("Certificates are of 15 frames and accepted; pins and steps are those of a");
-    println!("circuit on average.");
-    println!();
-    println!(
-        "{:<9} {:>8} {:>6} {:>6} {:>6} {:>11} {:>9} {:>6}  {:>19}",
-        "part",
-        "circuits",
-        "nodes",
-        "pins",
-        "steps",
-        "library us",
-        "model us",
-        "ratio",
-        "ns per node and pin"
-    );
-    println!("{:>79} {:>9}", "or per step, library", "model");
-}
-
-fn print_row(row: &Row) {
-    let Row {
-        part,
-        circuits,
-        nodes,
-        pins,
-        steps,
-        times,
-    } = row;
-    let steps = steps.map_or("-".to_string(), |steps| steps.to_string());
-    let items = row.items() as f64;
-    println!(
-        "{part:<9} {circuits:>8} {nodes:>6} {pins:>6} {steps:>6} {:>11.3} {:>9.3} {:>6.2}  {:>9.3} {:>9.3}",
-        times.library * 1e6,
-        times.model * 1e6,
-        times.ratio(),
-        times.library * 1e9 / items,
-        times.model * 1e9 / items
-    );
+/// Times a report, and says so first: some take a minute.
+fn measure(case: &'static Case) -> Timed {
+    let Case { circuit, b, f, .. } = case;
+    eprintln!("timing the report on {circuit} with B {b} and F {f}");
+    Timed::new(case)
 }

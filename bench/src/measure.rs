@@ -1,4 +1,4 @@
-//! Processor times of two ways to do the same work, taken in turn.
+//! Processor times: of work, and of two ways to do the same, taken in turn.
 
 use std::ffi::c_long;
 
@@ -9,6 +9,9 @@ extern "C" {
 
 /// The shortest turn, in seconds: far above what the clock can tell apart.
 const SHORTEST_TURN: f64 = 0.002;
+
+/// The shortest turn of reports, long enough for one turn to be enough.
+const SHORTEST_REPORT_TURN: f64 = 0.1;
 
 /// The time of one call in the library and in the model, in seconds.
 pub struct Pair {
@@ -46,6 +49,24 @@ pub fn compare(
     Pair {
         library: median(library_times) / all_calls,
         model: median(model_times) / all_calls,
+    }
+}
+
+/// The time of work that is done once.
+pub fn seconds_of(mut work: impl FnMut()) -> f64 {
+    time(&mut work, 1)
+}
+
+/// The time of one run of work, which is done as often as it takes for the
+/// clock to tell.
+pub fn seconds_per_run(mut work: impl FnMut()) -> f64 {
+    let mut runs = 1;
+    loop {
+        let seconds = time(&mut work, runs);
+        if seconds >= SHORTEST_REPORT_TURN {
+            return seconds / runs as f64;
+        }
+        runs *= 2;
     }
 }
 

@@ -1,6 +1,6 @@
 //! Whole reports: the finder on every fault of a circuit.
 
-use crate::measure::{compare, Pair};
+use crate::measure::{seconds_of, seconds_per_run};
 use leverpeach_tests::circuits::calls::{self, Request};
 use leverpeach_tests::model::finder::Lent;
 use leverpeach_tests::model::netlist::Netlist;
@@ -10,128 +10,191 @@ use std::fs;
 use std::hint::black_box;
 use std::path::Path;
 
-/// The bounds of the reports.
-const B: u8 = 2;
-const F: u8 = 1;
+/// What the slices hold before a call.
+const ANYTHING: u8 = 170;
+
+/// A report of an example circuit.
+pub struct Case {
+    pub circuit: &'static str,
+    pub b: u8,
+    pub f: u8,
+    /// The model's finder gets one fault of so many: it takes hours for a whole
+    /// report of the largest circuits.
+    pub one_of: usize,
+    /// How many times faster than the model the library has to be.
+    pub limit: Option<f64>,
+}
+
+impl Case {
+    const fn new(circuit: &'static str, b: u8, f: u8, one_of: usize) -> Self {
+        Case {
+            circuit,
+            b,
+            f,
+            one_of,
+            limit: None,
+        }
+    }
+
+    const fn at_least(self, limit: f64) -> Self {
+        Case {
+            limit: Some(limit),
+            ..self
+        }
+    }
+}
+
+/// Every report that is timed, those with a limit and those that show how the
+/// time grows.
+pub const CASES: [Case; 10] = [
+    Case::new("mix30", 2, 1, 1),
+    Case::new("mix100", 2, 1, 1).at_least(50.0),
+    Case::new("mix290", 2, 1, 31),
+    Case::new("random290", 2, 1, 15).at_least(50.0),
+    Case::new("mix100", 4, 3, 9),
+    Case::new("mix100", 5, 5, 15),
+    Case::new("mix100", 7, 7, 31),
+    Case::new("mix290", 4, 3, 91),
+    Case::new("mix290", 5, 5, 121),
+    Case::new("mix290", 7, 7, 121).at_least(500.0),
+];
 
 /// A circuit's faults, and the slices that the finder is lent for them.
-#[derive(PartialEq)]
 struct Report {
     netlist: Vec<u8>,
+    b: u8,
+    f: u8,
     faults: Vec<Fault>,
     slices: [Vec<u8>; 3],
-    /// The finder's answer for each fault.
+    /// The library's answer for each fault.
     answers: Vec<u64>,
 }
 
 impl Report {
-    fn new(netlist: &[u8]) -> Self {
-        let circuit = Netlist::sound(netlist).expect("the example is sound");
+    fn new(case: &Case) -> Self {
+        let examples = Path::new(env!("CARGO_MANIFEST_DIR")).join("../examples");
+        let path = examples.join(case.circuit).with_extension("net");
+        let netlist = fs::read(path).expect("the example is there");
+        let circuit = Netlist::sound(&netlist).expect("the example is sound");
         let faults: Vec<Fault> = report::faults(&circuit).collect();
-        let request = Request {
-            fault: faults[0],
-            b: B,
-            f: F,
-        };
-        let lengths = request.slice_lengths(circuit.node_count());
+        let (fault, b, f) = (faults[0], case.b, case.f);
+        let lengths = Request { fault, b, f }.slice_lengths(circuit.node_count());
         Report {
-            netlist: netlist.to_vec(),
+            netlist,
+            b,
+            f,
             faults,
-            slices: lengths.map(|length| vec![0; length]),
+            slices: lengths.map(|length| vec![ANYTHING; length]),
             answers: Vec::new(),
         }
     }
 
-    /// Asks the finder for every fault.
-    fn run(&mut self, find: impl Fn(&[u8], Fault, Lent) -> u64) {
-        let Report {
-            netlist,
-            faults,
-            slices: [first, second, certificate],
-            answers,
-        } = self;
-        answers.clear();
-        for fault in faults {
-            let lent = Lent {
-                first,
-                second,
-                certificate,
-            };
-            answers.push(find(black_box(netlist), *fault, lent));
+    /// Asks the library for every fault.
+    fn run(&mut self) {
+        self.answers.clear();
+        for fault in &self.faults {
+            let netlist = black_box(&self.netlist);
+            let lent = lend(&mut self.slices);
+            let answer = native::find(netlist, *fault, self.b, self.f, lent);
+            self.answers.push(answer);
         }
     }
 
-    fn run_with_library(&mut self) {
-        self.run(|netlist, fault, lent| native::find(netlist, fault, B, F, lent));
+    /// The places of the faults that are marked, or of those that are not.
+    fn places(&self, marked: bool) -> Vec<usize> {
+        let places = (0..self.faults.len()).filter(|place| (self.answers[*place] > 0) == marked);
+        places.collect()
     }
 
-    fn run_with_model(&mut self) {
-        self.run(|netlist, fault, lent| {
-            native::finding_number(model::find(netlist, fault, B, F, lent))
+    /// The model's time for the fault at this place. Library and model must
+    /// give the same answer, and leave the same bytes in all that they are lent.
+    fn time_model(&mut self, place: usize) -> f64 {
+        let Report { netlist, b, f, .. } = self;
+        let fault = self.faults[place];
+        let slices = &mut self.slices;
+        let mut expected = slices.clone();
+        for slice in slices.iter_mut().chain(&mut expected) {
+            slice.fill(ANYTHING);
+        }
+        let answer = native::find(netlist, fault, *b, *f, lend(slices));
+        let mut finding = None;
+        let seconds = seconds_of(|| {
+            let lent = lend(&mut expected);
+            finding = Some(model::find(black_box(netlist), fault, *b, *f, lent));
         });
-    }
-
-    fn mark_count(&self) -> usize {
-        self.answers.iter().filter(|answer| **answer > 0).count()
+        let finding = finding.expect("the model was run");
+        assert_eq!(answer, native::finding_number(finding), "{fault:?}");
+        assert_eq!(answer, self.answers[place], "{fault:?}, asked again");
+        assert!(*slices == expected, "other bytes for {fault:?}");
+        seconds
     }
 }
 
-/// A report with its times.
+fn lend(slices: &mut [Vec<u8>; 3]) -> Lent<'_> {
+    let [first, second, certificate] = slices;
+    Lent {
+        first,
+        second,
+        certificate,
+    }
+}
+
+/// One of so many of these places, evenly spread and never none of them.
+fn sample(places: &[usize], one_of: usize) -> Vec<usize> {
+    let one_of = one_of.min(places.len()).max(1);
+    let sampled = places.iter().skip(one_of / 2).step_by(one_of);
+    sampled.copied().collect()
+}
+
+/// A report with the times of library and model, in seconds.
 pub struct Timed {
-    circuit: &'static str,
-    nodes: usize,
-    faults: usize,
-    marks: usize,
-    pub times: Pair,
+    pub case: &'static Case,
+    pub nodes: usize,
+    pub faults: usize,
+    pub marks: usize,
+    /// How many faults the model was given.
+    pub sampled: usize,
+    pub library: f64,
+    /// Of the whole report, as far as the sample tells.
+    pub model: f64,
 }
 
 impl Timed {
-    /// Times the report of one of the example circuits.
-    pub fn new(circuit: &'static str, repetitions: usize) -> Self {
-        let examples = Path::new(env!("CARGO_MANIFEST_DIR")).join("../examples");
-        let path = examples.join(circuit).with_extension("net");
-        let netlist = fs::read(path).expect("the example is there");
-        let (mut model, mut library) = (Report::new(&netlist), Report::new(&netlist));
-        let times = compare(
-            || library.run_with_library(),
-            || model.run_with_model(),
-            1,
-            repetitions,
-        );
-        assert!(library == model, "library and model gave different reports");
+    pub fn new(case: &'static Case) -> Self {
+        let mut report = Report::new(case);
+        let before = seconds_per_run(|| report.run());
+        let (mut sampled, mut model) = (0, 0.0);
+        // A mark ends the search, so that marked faults tell nothing of the
+        // time of the others.
+        for marked in [false, true] {
+            let places = report.places(marked);
+            let chosen = sample(&places, case.one_of);
+            let seconds: f64 = chosen.iter().map(|place| report.time_model(*place)).sum();
+            sampled += chosen.len();
+            model += seconds * places.len() as f64 / chosen.len().max(1) as f64;
+        }
+        let after = seconds_per_run(|| report.run());
         Timed {
-            circuit,
-            nodes: calls::node_count(&netlist),
-            faults: model.faults.len(),
-            marks: model.mark_count(),
-            times,
+            case,
+            nodes: calls::node_count(&report.netlist),
+            faults: report.faults.len(),
+            marks: report.places(true).len(),
+            sampled,
+            library: before.max(after),
+            model,
         }
     }
 
-    pub fn print(&self) {
-        let Timed {
-            circuit,
-            nodes,
-            faults,
-            marks,
-            times,
-        } = self;
-        println!(
-            "{circuit:<9} {nodes:>6} {faults:>6} {marks:>6} {:>11.3} {:>9.3} {:>6.2}",
-            times.library,
-            times.model,
-            times.ratio()
-        );
+    pub fn frames(&self) -> usize {
+        usize::from(self.case.b) + usize::from(self.case.f) + 1
     }
-}
 
-pub fn print_heading(limit: f64) {
-    println!();
-    println!("Whole reports: the finder on every fault of a circuit, with B {B} and F {F}; the");
-    println!("limit of the ratio is {limit:.2}.");
-    println!();
-    println!(
-        "{:<9} {:>6} {:>6} {:>6} {:>11} {:>9} {:>6}",
-        "circuit", "nodes", "faults", "marks", "library s", "model s", "ratio"
-    );
+    /// How many times faster the library is.
+    pub fn gain(&self) -> f64 {
+        self.model / self.library
+    }
+
+    pub fn is_within_limit(&self) -> bool {
+        self.case.limit.is_none_or(|limit| self.gain() >= limit)
+    }
 }
