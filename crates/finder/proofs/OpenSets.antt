@@ -23,6 +23,7 @@ use Rattle.finder.proofs.StandsLaws.{closes-closed, closes-traced}
 use Rattle.finder.proofs.StillLaws.{Silent, branches-count, nothing-new, still-silent, sweep-still}
 use Rattle.finder.specs.Finder.{branchOf, split, splitCloses}
 use Rattle.finder.specs.Sweeps.{branches, implied, sweep}
+use Rattle.finder.specs.Work.{KeptOpen}
 use Rattle.finder.specs.declared.split.Split.{Split}
 
 -- what an open branch knows, where one more sweep changes nothing, is a shut set
@@ -110,6 +111,6 @@ module _ (net : Net) (o : Ordered net) (f : Fault) (F : ℕ) (s : Split) (v : �
 
   -- the same of the bytes that hold what the branch knows: where they have 0 or 1, the split does not close
   pub open-marks-in : (bytes : List ℕ) → Holds net (presentBelow (s .c) (linesOf f)) (s .c + F + 1) (branchOf net f F s v .values) bytes
-      → (m u : ℕ) → m < net .size → u < s .c + F + 1 → at bytes (u * net .size + m) < 2 → splitCloses net f F (split (s .c) u m) ≡ false
-  unfolding Holds
+      → KeptOpen net f F (s .c) bytes
+  unfolding Holds KeptOpen
   open-marks-in bytes holds m u h g l = open-split m u (at bytes (u * net .size + m)) h l (sym (holds m u h g))

@@ -3,18 +3,18 @@ use mathlib.Core.Bool.{Bool, false, not, true}
 use mathlib.Core.List.{List, [], _∷_}
 use mathlib.Core.Logic.{_⊎_}
 use mathlib.Core.Path.{_≡_}
-use Prim.Native.Nat.{_*_, _+_, _<_, pred, ℕ}
+use Prim.Native.Nat.{_*_, _+_, _/_, _<_, pred, ℕ}
 use lib.ListN.{set}
 use lib.Seq.{sets}
 use Rattle.values.specs.Lists.{at}
 use Rattle.values.specs.Value.{isUnknown}
-use Rattle.circuit.specs.Fault.{StuckLines}
+use Rattle.circuit.specs.Fault.{StuckLines, linesOf}
 use Rattle.circuit.specs.Netlist.{Net}
 use Rattle.circuit.specs.declared.fault.Fault.{Fault}
 use Rattle.checker.specs.Trace.{mark}
-use Rattle.checker.specs.Window.{enterAt, knownIn}
+use Rattle.checker.specs.Window.{enterAt, knownIn, presentBelow}
 use Rattle.checker.specs.declared.step.Step.{Step}
-use Rattle.finder.specs.Finder.{splitCloses}
+use Rattle.finder.specs.Finder.{split, splitCloses}
 use Rattle.finder.specs.Sweeps.{BranchState, sweepFrame}
 use Rattle.finder.specs.Written.{stepBytes}
 use Rattle.finder.specs.declared.split.Split.{Split}
@@ -56,11 +56,23 @@ unfoldable pub frameNoted : List ℕ → ℕ → Bool → List ℕ
 frameNoted calm t true = set calm t 1
 frameNoted calm t false = set (set (set calm (pred t) 0) t 0) (t + 1) 0
 
--- A place of the notes after a branch of the window of c was noted: as it was, or c + 1 where the branch knows a value.
-unfoldable pub Noted : List ℕ → ℕ → List ℕ → List ℕ → ℕ → Type 0
-Noted known c before after place = (at after place ≡ at before place) ⊎ ((at after place ≡ c + 1) × (at known place < 2))
+-- The notes hold two things in a byte: a guessed value, in the two low bits, and above them the note, which is c + 1, or 0 for none.
+abbrev pub noteAt : List ℕ → ℕ → ℕ
+noteAt noted place = at noted place / 4
 
--- what the notes say: a split whose place holds its c + 1 does not close
+-- A place of the notes after the values of a set in the window of c were noted: as it was, or with the note c + 1 where the set has a value.
+unfoldable pub Noted : List ℕ → ℕ → List ℕ → List ℕ → ℕ → Type 0
+Noted known c before after place = (at after place ≡ at before place) ⊎ ((noteAt after place ≡ c + 1) × (at known place < 2))
+
+-- what the notes say: a split whose place has the note of its c does not close
 unfoldable pub NotedStayOpen : Net → Fault → ℕ → List ℕ → Type 0
 NotedStayOpen net f F noted =
-    (s : Split) → s .frame < s .c + F + 1 → s .node < net .size → at noted (s .frame * net .size + s .node) ≡ s .c + 1 → splitCloses net f F s ≡ false
+    (s : Split) → s .frame < s .c + F + 1 → s .node < net .size → noteAt noted (s .frame * net .size + s .node) ≡ s .c + 1 → splitCloses net f F s ≡ false
+
+-- the bytes have the values that the fault holds below frame c, in a circuit of N nodes
+unfoldable pub HasHeld : ℕ → Fault → ℕ → List ℕ → Type 0
+HasHeld N f c known = (n t : ℕ) → presentBelow c (linesOf f) t .node n < 2 → presentBelow c (linesOf f) t .node n ≡ knownIn known N n t
+
+-- where the bytes have a value, in the window of c, the split does not close
+unfoldable pub KeptOpen : Net → Fault → ℕ → ℕ → List ℕ → Type 0
+KeptOpen net f F c known = (m u : ℕ) → m < net .size → u < c + F + 1 → knownIn known (net .size) m u < 2 → splitCloses net f F (split c u m) ≡ false

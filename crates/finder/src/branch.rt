@@ -1,7 +1,7 @@
 // A branch of a split: worked out by sweeps, and whether it closes.
 ghost use mathlib.Core.Path.{_≡_};
 ghost use mathlib.Core.Bool.{true};
-ghost use Prim.Native.Nat.{ℕ, _*_, _+_, _<_, _≤_};
+ghost use Prim.Native.Nat.{_*_, _+_, _<_, _≤_};
 ghost use lib.ListN.{length};
 ghost use lib.Seq.{sets};
 ghost use Rattle.circuit.specs.Fault.{faultExists, linesOf};
@@ -9,13 +9,14 @@ ghost use Rattle.circuit.specs.Netlist.{netOf, pinCount, reading, sound};
 ghost use Rattle.checker.specs.Checker.{closes};
 ghost use Rattle.checker.specs.Window.{Holds, presentBelow};
 ghost use Rattle.finder.specs.Finder.{branchOf, splitCloses};
-ghost use Rattle.finder.specs.Work.{Noted, NotedStayOpen};
+ghost use Rattle.finder.specs.Work.{NotedStayOpen};
 ghost use Rattle.finder.specs.Written.{runBytes};
+use crate::notes::NOTE_UNIT;
+use crate::notes::note_known;
 use crate::split::Split;
 use crate::sweep::Progress;
 use crate::sweep::sweep_window;
 use circuit::Fault;
-use values::UNKNOWN;
 
 // Works out the branch of a split that has the value v, and writes its steps into the run, as far
 // as that has room. A sweep without a step ends it, and so does a contradiction. At first no frame
@@ -56,20 +57,6 @@ pub(crate) fn work_branch(
         made += 1;
     }
     done
-}
-
-// Notes each value that a branch of the window of c knows, by c + 1 at its place.
-fn note_known(known: &[u8], c: u8, noted: &mut [u8])
-    requires { ⌜ c < 15 ⌝ }
-    ensures { λ _. ⌜ ((place : ℕ) → Noted (now (known .entry)) c (now (noted .entry)) (now (noted .exit)) place) ⌝ }
-{
-    let mut place: usize = 0;
-    while place < known.len() {
-        if values::byte_at(known, place) < UNKNOWN {
-            values::store(noted, place, c + 1);
-        }
-        place += 1;
-    }
 }
 
 // Whether branch v of a split closes: by contradiction, or because the fault's effect dies. Where it
@@ -149,7 +136,7 @@ pub(crate) fn closes(
 {
     let c = split.c;
     let place = checker::place_of(n, split.node, split.frame as u16);
-    if values::byte_at(noted, place) == c + 1 {
+    if values::byte_at(noted, place) / NOTE_UNIT == c + 1 {
         return false;
     }
     let size = n as usize * (c as usize + f as usize + 1);

@@ -1,5 +1,6 @@
 // The finder: tries splits until both branches of one close, and writes that one's certificate.
 mod branch;
+mod notes;
 mod search;
 mod split;
 mod sweep;

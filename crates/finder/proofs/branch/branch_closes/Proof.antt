@@ -15,14 +15,15 @@ use Rattle.checker.specs.Window.{Holds, known, knownIn, presentBelow}
 use Rattle.finder.specs.Finder.{branchOf}
 use Rattle.finder.proofs.StandsLaws.{closes-closed, closes-traced}
 use Rattle.checker.specs.Trace.{Traced}
-use Rattle.finder.proofs.NotesLaws.{notes-branch}
+use Rattle.finder.proofs.NotesLaws.{notes-set}
+use Rattle.finder.proofs.OpenSets.{open-marks-in}
 use borrow.Author.Needs.{needs}
 use Rattle.finder.proofs.branch.branch_closes.Statement.{statement}
 use Rattle.finder.proofs.branch.branch_closes.Tie as tie
 use Rattle.finder.proofs.branch.branch_closes.Reads as reads
 use Rattle.finder.proofs.branch.branch_closes.Lts as lts
 use Rattle.checker.proofs.effect_dies.Reads as effect-dies-reads
-use Rattle.finder.proofs.branch.note_known.Reads as note-known-reads
+use Rattle.finder.proofs.notes.note_known.Reads as note-known-reads
 use Rattle.finder.proofs.branch.work_branch.Reads as work-branch-reads
 
 -- src/branch.rt:94:67
@@ -137,7 +138,8 @@ returns-3 c = let a = c .before .before .before .before .before .before .before 
     ∙ closes-traced net (linesOf (a .fault)) (a .split .c) (a .f) b (sym (d .ensures .0 .0) ∙ c .before .before .before .before .before .before .before .before .before .before .before .if1 .left) in
     let q = sym (c .before .before .before .before .before .if2 .left) ∙ e in
     let i = c .before .before .before .before .before .before .before .before .before .before .before .before .before .before .before .before .before .before .before .before .before .before .before .pre .1 .1 .0 in
-    let noted = notes-branch net o (a .fault) (a .f) (a .split) (a .v) (omega (arith, size, i .2)) (i .1) (i .3) (sym q) (d .last .1 .1 .1 .1 .1 .1 .0) (now (a .noted)) (c .before .before .note-known .last .1 .1 .0) (d .ensures .1 .0) (c .before .before .note-known .ensures) (c .before .before .before .before .before .before .before .before .before .before .before .before .before .before .before .before .before .before .before .before .before .before .before .pre .1 .1 .1 .1) in
+    let open-values = open-marks-in net o (a .fault) (a .f) (a .split) (a .v) (omega (arith, size, i .2)) (i .1) (i .3) (sym q) (d .last .1 .1 .1 .1 .1 .1 .0) (d .ensures .1 .0) in
+    let noted = notes-set net (a .fault) (a .f) (a .split .c) (d .last .1 .1 .1 .1 .1 .1 .0) (now (a .noted)) (c .before .before .note-known .last .1 .1 .0) open-values (c .before .before .note-known .ensures) (c .before .before .before .before .before .before .before .before .before .before .before .before .before .before .before .before .before .before .before .before .before .before .before .pre .1 .1 .1 .1) in
     (q, noted)
 
 pub branch-closes-spec : {M : Type 1} → statement M

@@ -1,4 +1,4 @@
-use Prim.Native.Nat.{ℕ, _+_, _*_}
+use Prim.Native.Nat.{ℕ, _+_, _*_, _/_}
 use mathlib.Core.Path.{_∙_, ap, sym}
 use lib.Seq.{length-take-le}
 use denote.Ref.{now}
@@ -44,7 +44,7 @@ returns c = let a = c .before .before .before .before .before .before .before .b
     let p = c .before .before .before .before .before .before .before .before .before .pre in
     let size = sound-size s (a .n) (pinCount s) (p .0) in
     let place = c .before .before .before .place-of .ensures ∙ ap (λ (x : ℕ). a .split .frame * x + a .split .node) size in
-    let e = ap (at (now (a .noted))) (sym place) ∙ sym (c .before .byte-at .ensures) ∙ c .if1 .taken in
+    let e = ap (λ (x : ℕ). x / 4) (ap (at (now (a .noted))) (sym place) ∙ sym (c .before .byte-at .ensures)) ∙ c .if1 .taken in
     (sym (p .1 .1 .1 .1 (a .split) (p .1 .1 .0 .1) (omega (arith, size, p .1 .1 .0 .2)) e), p .1 .1 .1 .1)
 
 -- src/branch.rt:153:30
