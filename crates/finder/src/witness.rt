@@ -12,6 +12,8 @@ ghost use Rattle.circuit.specs.Fault.{linesIn, linesOf};
 ghost use Rattle.circuit.specs.Netlist.{kindOf, netOf, pinCount, reading, sound};
 ghost use Rattle.checker.specs.Statement.{Redundant};
 ghost use Rattle.finder.specs.Alike.{Alike, AlikeFrom, SameOutputs};
+use crate::bytes::copy;
+use crate::random::draw;
 use circuit::Circuit;
 use circuit::Fault;
 use values::FLIP_FLOP;
@@ -27,44 +29,6 @@ const TRIALS: u32 = 4;
 
 // How many clocks the good circuit takes beside the faulty one.
 const CLOCKS: u8 = 16;
-
-// The number after a pseudo-random one: a linear congruential generator with the modulus 2^31.
-fn next_random(random: u32) -> u32 {
-    ((random as u64 * 1103515245 + 12345) % 2147483648) as u32
-}
-
-// One of its upper bits, which are the better ones.
-fn bit_of(random: u32) -> u8
-    ensures { λ r. ⌜ r < 2 ⌝ }
-{
-    ((random / 1048576) % 2) as u8
-}
-
-// Puts a pseudo-random 0 or 1 into every place. Gives the number from which to go on.
-fn draw(random: u32, values: &mut [u8]) -> u32
-    ensures { λ _. ⌜ ((k : ℕ) → k < length (now (values .entry)) → at (now (values .exit)) k < 2) ⌝ }
-{
-    let mut next = random;
-    let mut place: usize = 0;
-    while place < values.len() {
-        next = next_random(next);
-        values[place] = bit_of(next);
-        place += 1;
-    }
-    next
-}
-
-// Puts the bytes of one slice into another of the same length.
-fn copy(from: &[u8], to: &mut [u8])
-    requires { ⌜ length (now to) ≡ length (now from) ⌝ }
-    ensures { λ _. ⌜ now (to .exit) ≡ now (from .entry) ⌝ }
-{
-    let mut place: usize = 0;
-    while place < from.len() {
-        to[place] = from[place];
-        place += 1;
-    }
-}
 
 // What a clock step is given at a node's place: the latched value of a flip-flop, else what is there.
 fn start_value(netlist: &[u8], latched: &[u8], values: &[u8], node: u16) -> u8

@@ -14,7 +14,7 @@ use Rattle.finder.proofs.witness.lead_in.Statement.{statement}
 use Rattle.finder.proofs.witness.lead_in.Tie as tie
 use Rattle.finder.proofs.witness.lead_in.Reads as reads
 use Rattle.finder.proofs.witness.lead_in.Lts as lts
-use Rattle.finder.proofs.witness.draw.Reads as draw-reads
+use Rattle.finder.proofs.random.draw.Reads as draw-reads
 use Rattle.finder.proofs.witness.run_clock.Reads as run-clock-reads
 
 abbrev Inv-loop : tie.InvT-loop

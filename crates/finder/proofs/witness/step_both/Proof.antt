@@ -11,8 +11,8 @@ use Rattle.finder.proofs.witness.step_both.Statement.{statement}
 use Rattle.finder.proofs.witness.step_both.Tie as tie
 use Rattle.finder.proofs.witness.step_both.Reads as reads
 use Rattle.finder.proofs.witness.step_both.Lts as lts
-use Rattle.finder.proofs.witness.copy.Reads as copy-reads
-use Rattle.finder.proofs.witness.draw.Reads as draw-reads
+use Rattle.finder.proofs.bytes.copy.Reads as copy-reads
+use Rattle.finder.proofs.random.draw.Reads as draw-reads
 use Rattle.finder.proofs.witness.run_clock.Reads as run-clock-reads
 
 -- src/witness.rt:166:9

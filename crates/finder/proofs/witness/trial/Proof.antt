@@ -11,8 +11,8 @@ use Rattle.finder.proofs.witness.trial.Statement.{statement}
 use Rattle.finder.proofs.witness.trial.Tie as tie
 use Rattle.finder.proofs.witness.trial.Reads as reads
 use Rattle.finder.proofs.witness.trial.Lts as lts
-use Rattle.finder.proofs.witness.copy.Reads as copy-reads
-use Rattle.finder.proofs.witness.draw.Reads as draw-reads
+use Rattle.finder.proofs.bytes.copy.Reads as copy-reads
+use Rattle.finder.proofs.random.draw.Reads as draw-reads
 use Rattle.finder.proofs.witness.lead_in.Reads as lead-in-reads
 use Rattle.finder.proofs.witness.run_both.Reads as run-both-reads
 
