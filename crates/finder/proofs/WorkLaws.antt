@@ -198,6 +198,18 @@ module _ (net : Net) (S : ℕ → StuckLines) where
   unfolding sweep
   sweep-tally W w = frames-tally W w
 
+  pub sweeps-tally : (W m : ℕ) (w : Work) → tally (sweeps (inBytes (net .size)) net S W m w) ≡ tally w
+  unfolding sweeps
+  sweeps-tally W zero w = refl
+  sweeps-tally W (suc m) w =
+      let b = sweep (inBytes (net .size)) net S W w in
+      go (b .closed || eqb (b .steps) (w .steps)) (sweeps-tally W m b ∙ sweep-tally W w)
+    where
+      go : (q : Bool) → tally (sweeps (inBytes (net .size)) net S W m (sweep (inBytes (net .size)) net S W w)) ≡ tally w
+          → tally (elim q [ true ↦ sweep (inBytes (net .size)) net S W w | false ↦ sweeps (inBytes (net .size)) net S W m (sweep (inBytes (net .size)) net S W w) ]) ≡ tally w
+      go true e = sweep-tally W w
+      go false e = e
+
   -- ---- a closed branch stays as it is
 
   pub lines-closed : (n t m : ℕ) (w : Work) → w .closed ≡ true → rising (tryLine (inBytes (net .size)) net S n t) m w ≡ w

@@ -15,12 +15,11 @@ use crate::notes::NOTE_UNIT;
 use crate::notes::note_known;
 use crate::split::Split;
 use crate::sweep::Progress;
-use crate::sweep::sweep_window;
+use crate::sweep::sweep_to_end;
 use circuit::Fault;
 
 // Works out the branch of a split that has the value v, and writes its steps into the run, as far
-// as that has room. A sweep without a step ends it, and so does a contradiction. At first no frame
-// is calm.
+// as that has room. A sweep without a step ends it, and so does a contradiction.
 pub(crate) fn work_branch(
     netlist: &[u8],
     n: u16,
@@ -41,22 +40,8 @@ pub(crate) fn work_branch(
 {
     let w = split.c + f + 1;
     let closed = checker::begin_branch(netlist, fault, split.c, split.node, split.frame, v, known);
-    let mut done = Progress { steps: 0, closed };
-    let mut calm = [0u8; 15];
-    let most = n as usize * w as usize + 1;
-    let mut made: usize = 0;
-    while made < most {
-        let before = done.steps;
-        done = sweep_window(netlist, n, w, fault, split.c, &mut calm, known, run, done);
-        if done.closed {
-            return done;
-        }
-        if done.steps == before {
-            return done;
-        }
-        made += 1;
-    }
-    done
+    let start = Progress { steps: 0, closed };
+    sweep_to_end(netlist, n, w, fault, split.c, known, run, start)
 }
 
 // Whether branch v of a split closes: by contradiction, or because the fault's effect dies. Where it

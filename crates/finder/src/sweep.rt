@@ -9,7 +9,7 @@ ghost use Rattle.circuit.specs.Fault.{linesOf};
 ghost use Rattle.values.specs.Lists.{at};
 ghost use Rattle.circuit.specs.Netlist.{kindOf, lengthOf, netOf, pinCount, reading, sound, sourceOf};
 ghost use Rattle.checker.specs.Window.{pinFrame, presentBelow};
-ghost use Rattle.finder.specs.Sweeps.{rising, sweep, sweepFrame, tryLine, useRelation};
+ghost use Rattle.finder.specs.Sweeps.{rising, sweep, sweepFrame, sweeps, tryLine, useRelation};
 ghost use Rattle.finder.specs.Work.{CalmFrames, frameNoted, inBytes, tally, work};
 use crate::writer::put_step;
 use checker::STEP_LENGTH;
@@ -263,7 +263,7 @@ fn sweep_unless_calm(
 }
 
 // One sweep, by rising frame, in a window of w frames; those that are calm are left out.
-pub(crate) fn sweep_window(
+fn sweep_window(
     netlist: &[u8],
     n: u16,
     w: u8,
@@ -285,6 +285,39 @@ pub(crate) fn sweep_window(
     while frame < w {
         done = sweep_unless_calm(netlist, n, fault, c, frame, calm, known, run, done);
         frame += 1;
+    }
+    done
+}
+
+// Sweeps until one makes no step or meets a contradiction. At first no frame is calm.
+pub(crate) fn sweep_to_end(
+    netlist: &[u8],
+    n: u16,
+    w: u8,
+    fault: Fault,
+    c: u8,
+    known: &mut [u8],
+    run: &mut [u8],
+    progress: Progress,
+) -> Progress
+    requires { ⌜ reading (now netlist) ≡ sound n (pinCount (now netlist)) ⌝ }
+    requires { ⌜ tally (work (now known) (now run) (progress .steps) (progress .closed)) ≤ 1048576 ⌝ }
+    ensures { λ r. ⌜ work (now (known .exit)) (now (run .exit)) (r .steps) (r .closed) ≡ sweeps (inBytes (netOf (now (netlist .entry)) .size)) (netOf (now (netlist .entry))) (presentBelow c (linesOf fault)) w (n * w + 1) (work (now (known .entry)) (now (run .entry)) (progress .steps) (progress .closed)) ⌝ }
+{
+    let mut done = progress;
+    let mut calm = [0u8; 15];
+    let most = n as usize * w as usize + 1;
+    let mut made: usize = 0;
+    while made < most {
+        let before = done.steps;
+        done = sweep_window(netlist, n, w, fault, c, &mut calm, known, run, done);
+        if done.closed {
+            return done;
+        }
+        if done.steps == before {
+            return done;
+        }
+        made += 1;
     }
     done
 }
