@@ -13,6 +13,7 @@ pub mod CalmLaws
 pub mod KnownPinLaws
 pub mod StandsLaws
 pub mod OpenSets
+pub mod GuessLaws
 pub mod NotesLaws
 pub mod BenchCircuits
 pub mod WalkLaws
