@@ -12,6 +12,7 @@ ghost use Rattle.finder.specs.Marks.{IsMark, NoneCloses};
 ghost use Rattle.finder.specs.Work.{NotedStayOpen};
 use crate::branch::closes;
 use crate::branch::work_branch;
+use crate::notes::note_window;
 use crate::split::Split;
 use crate::witness::rules_out;
 use crate::writer::write_head;
@@ -63,7 +64,8 @@ fn first_window(
 }
 
 // Walks the splits up to the first whose two branches close, by c up to b, then frame, then node;
-// where none does, to one whose c is above b. Splits that were shown to stay open are noted.
+// where none does, to one whose c is above b. Splits that were shown to stay open are noted, at the
+// start of a window those of a guess.
 fn walk_splits(
     netlist: &[u8],
     n: u16,
@@ -89,6 +91,7 @@ fn walk_splits(
         node: 0,
     };
     while split.c <= b {
+        note_window(netlist, n, fault, b, f, split, known, marks, noted);
         if closes(netlist, n, fault, f, split, known, marks, noted) {
             return split;
         }

@@ -26,27 +26,27 @@ use Rattle.checker.proofs.effect_dies.Reads as effect-dies-reads
 use Rattle.finder.proofs.notes.note_known.Reads as note-known-reads
 use Rattle.finder.proofs.branch.work_branch.Reads as work-branch-reads
 
--- src/branch.rt:94:67
+-- src/branch.rt:83:67
 slice-relend-prefix-work-branch : tie.Need-slice-relend-prefix-work-branch
 slice-relend-prefix-work-branch c = search needs
 
--- src/branch.rt:94:67
+-- src/branch.rt:83:67
 slice-aggregate-work-branch : tie.Need-slice-aggregate-work-branch
 slice-aggregate-work-branch c = search needs
 
--- src/branch.rt:94:9
+-- src/branch.rt:83:9
 work-branch-requires : tie.Need-work-branch-requires
 work-branch-requires c κs = search needs
 
--- src/branch.rt:96:9
+-- src/branch.rt:85:9
 same-length : tie.Need-same-length
 same-length c = search needs
 
--- src/branch.rt:96:9
+-- src/branch.rt:85:9
 same-length-2 : tie.Need-same-length-2
 same-length-2 c = search needs
 
--- src/branch.rt:96:9
+-- src/branch.rt:85:9
 returns : tie.Need-returns
 returns c = let a = c .before .before .before .before .before .before .before .before .before .before .before .before .args in
     let s = now (a .netlist) in
@@ -58,19 +58,19 @@ returns c = let a = c .before .before .before .before .before .before .before .b
     let b = branchOf net (a .fault) (a .f) (a .split) (a .v) in
     (closes-closed net (linesOf (a .fault)) (a .split .c) (a .f) b (sym (c .before .before .before .before .before .work-branch .ensures .0 .0) ∙ c .if1 .taken), c .before .before .before .before .before .before .before .before .before .before .before .before .pre .1 .1 .1 .1)
 
--- src/branch.rt:98:8
+-- src/branch.rt:87:8
 effect-dies-requires : tie.Need-effect-dies-requires
 effect-dies-requires c κs = search needs
 
--- src/branch.rt:99:9
+-- src/branch.rt:88:9
 same-length-3 : tie.Need-same-length-3
 same-length-3 c = search needs
 
--- src/branch.rt:99:9
+-- src/branch.rt:88:9
 same-length-4 : tie.Need-same-length-4
 same-length-4 c = search needs
 
--- src/branch.rt:99:9
+-- src/branch.rt:88:9
 returns-2 : tie.Need-returns-2
 unfolding Holds
 returns-2 c = let a = c .before .before .before .before .before .before .before .before .before .before .before .before .before .before .before .before .before .before .args in
@@ -96,23 +96,23 @@ returns-2 c = let a = c .before .before .before .before .before .before .before 
     ∙ closes-traced net (linesOf (a .fault)) (a .split .c) (a .f) b (sym (d .ensures .0 .0) ∙ c .before .before .before .before .before .before .if1 .left) in
     (sym (c .if2 .taken) ∙ e, c .before .before .before .before .before .before .before .before .before .before .before .before .before .before .before .before .before .before .pre .1 .1 .1 .1)
 
--- src/branch.rt:101:5
+-- src/branch.rt:90:5
 note-known-requires : tie.Need-note-known-requires
 note-known-requires c κs = search needs
 
--- src/branch.rt:75:1
+-- src/branch.rt:64:1
 same-length-5 : tie.Need-same-length-5
 same-length-5 c = search needs
 
--- src/branch.rt:75:1
+-- src/branch.rt:64:1
 same-length-6 : tie.Need-same-length-6
 same-length-6 c = search needs
 
--- src/branch.rt:75:1
+-- src/branch.rt:64:1
 same-length-7 : tie.Need-same-length-7
 same-length-7 c = search needs
 
--- src/branch.rt:75:1
+-- src/branch.rt:64:1
 returns-3 : tie.Need-returns-3
 unfolding Holds
 returns-3 c = let a = c .before .before .before .before .before .before .before .before .before .before .before .before .before .before .before .before .before .before .before .before .before .before .before .args in
