@@ -14,7 +14,7 @@ use circuit::Circuit;
 use circuit::Fault;
 use values::UNKNOWN;
 
-// A byte has its note from here on; the rest is the guessed value.
+// A byte is its note times this, plus the guessed value.
 pub(crate) const NOTE_UNIT: u8 = 4;
 
 // Notes each value of a set in the window of c, by c + 1 at its place. The guessed values stay.
