@@ -63,13 +63,14 @@ fn first_window(
     c
 }
 
-// Walks the splits up to the first whose two branches close, by c up to b, then frame, then node;
-// where none does, to one whose c is above b. Splits that were shown to stay open are noted, at the
+// Walks the splits from the window of c on, up to the first whose two branches close, by c up to b,
+// then frame, then node; where none does, to one whose c is above b. Splits that were shown to stay open are noted, at the
 // start of a window those of a guess.
 fn walk_splits(
     netlist: &[u8],
     n: u16,
     fault: Fault,
+    c: u8,
     b: u8,
     f: u8,
     known: &mut [u8],
@@ -81,10 +82,10 @@ fn walk_splits(
     requires { ⌜ b + f + 1 ≤ 15 ⌝ }
     requires { ⌜ (length (now known) ≡ n * (b + f + 1)) × (length (now marks) ≡ n * (b + f + 1)) ⌝ }
     requires { ⌜ NotedStayOpen (netOf (now netlist)) fault f (now noted) ⌝ }
+    requires { ⌜ (c ≤ b + 1) × (tryWindows (netOf (now netlist)) fault f c ≡ none) ⌝ }
     ensures { λ r. ⌜ cond (leb (r .c) b) (some r) none ≡ firstSplit (netOf (now (netlist .entry))) fault f b ⌝ }
     ensures { λ r. ⌜ (r .frame ≤ r .c + f) × (r .node < n) ⌝ }
 {
-    let c = first_window(netlist, n, fault, b, f, known, marks);
     let mut split = Split {
         c,
         frame: 0,
@@ -118,8 +119,16 @@ fn first_split(
     ensures { λ r. ⌜ cond (leb (r .c) b) (some r) none ≡ firstSplit (netOf (now (netlist .entry))) fault f b ⌝ }
     ensures { λ r. ⌜ (r .frame ≤ r .c + f) × (r .node < n) ⌝ }
 {
+    let c = first_window(netlist, n, fault, b, f, known, marks);
+    if c > b {
+        return Split {
+            c,
+            frame: 0,
+            node: 0,
+        };
+    }
     let mut noted = [0u8; NOTED_LENGTH];
-    walk_splits(netlist, n, fault, b, f, known, marks, &mut noted)
+    walk_splits(netlist, n, fault, c, b, f, known, marks, &mut noted)
 }
 
 // Writes the certificate of a split whose branches close: branch 1's steps straight after branch

@@ -263,7 +263,7 @@ fn sweep_unless_calm(
 }
 
 // One sweep, by rising frame, in a window of w frames; those that are calm are left out.
-fn sweep_window(
+pub(crate) fn sweep_window(
     netlist: &[u8],
     n: u16,
     w: u8,

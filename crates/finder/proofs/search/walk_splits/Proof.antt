@@ -17,45 +17,37 @@ use Rattle.finder.proofs.search.walk_splits.Reads as reads
 use Rattle.finder.proofs.search.walk_splits.Lts as lts
 use Rattle.finder.proofs.branch.closes.Reads as closes-reads
 use Rattle.finder.proofs.notes.note_window.Reads as note-window-reads
-use Rattle.finder.proofs.search.first_window.Reads as first-window-reads
 use Rattle.finder.proofs.split.Split.next.Reads as next-reads
 
 abbrev Inv-loop : tie.InvT-loop
-Inv-loop netlist n fault b f known₀ marks₀ noted₀ c split₀ known marks noted split = Reached (netOf netlist) fault f b split × (length known ≡ n * (b + f + 1)) × (length marks ≡ n * (b + f + 1)) × (length noted ≡ length noted₀) × NotedStayOpen (netOf netlist) fault f noted
+Inv-loop netlist n fault c b f known₀ marks₀ noted₀ split₀ known marks noted split = Reached (netOf netlist) fault f b split × (length known ≡ n * (b + f + 1)) × (length marks ≡ n * (b + f + 1)) × (length noted ≡ length noted₀) × NotedStayOpen (netOf netlist) fault f noted
 
 abbrev μ-loop : tie.MeasureT-loop
-μ-loop netlist n fault b f known₀ marks₀ noted₀ c split₀ known marks noted split = left b split
-
--- src/search.rt:87:9
-first-window-requires : tie.Need-first-window-requires Inv-loop μ-loop
-first-window-requires c κs = let a = c .before .before .before .before .before .before .args in
-    let p = c .before .before .before .before .before .before .pre in
-    let m : a .n * 1 ≤ a .n * (a .b + a .f + 1) = mul-le-mul-left (a .n) (omega arith) in
-    (p .0, (p .1 .0, (p .1 .1 .0, (omega (arith, m, p .1 .1 .1 .0 .0), omega (arith, m, p .1 .1 .1 .0 .1)))))
+μ-loop netlist n fault c b f known₀ marks₀ noted₀ split₀ known marks noted split = left b split
 
 -- src/search.rt:93:5
 loop-holds : tie.Need-loop-holds Inv-loop μ-loop
-loop-holds c = let a = c .before .before .before .before .before .before .before .before .before .before .before .args in
+loop-holds c = let a = c .before .before .before .before .args in
     let s = now (a .netlist) in
     let net = netOf s in
-    let p = c .before .before .before .before .before .before .before .before .before .before .before .pre in
+    let p = c .before .before .before .before .pre in
     let ne : a .n ≡ net .size = sound-size s (a .n) (pinCount s) (p .0) in
     let z : 0 < net .size = omega (arith, facts s (a .n) (pinCount s) (p .0) .some-node) in
-    let w = c .before .before .before .before .first-window in
-    (reached-window net (a .fault) (a .f) (a .b) (w .result) (w .ensures .0) z (w .ensures .1), c .before .before .before .before .first-window .kept .1 .1 .1 .1 .1 .0 ∙ p .1 .1 .1 .0 .0, c .before .before .before .before .first-window .kept .1 .1 .1 .1 .1 .1 .0 ∙ p .1 .1 .1 .0 .1, refl, p .1 .1 .1 .1)
+    let w = p .1 .1 .1 .1 .1 in
+    (reached-window net (a .fault) (a .f) (a .b) (a .c) (w .0) z (w .1), p .1 .1 .1 .0 .0, p .1 .1 .1 .0 .1, refl, p .1 .1 .1 .1 .0)
 
 -- src/search.rt:94:9
 note-window-requires : tie.Need-note-window-requires Inv-loop μ-loop
-note-window-requires c κs = let p = c .before .before .before .before .before .before .before .before .before .before .before .before .before .before .before .before .before .pre in
+note-window-requires c κs = let p = c .before .before .before .before .before .before .before .before .before .before .pre in
     let l = c .before .before .before .before .before .loop in
     (p .0, (p .1 .0, ((p .1 .1 .0, c .before .before .before .if1 .taken), ((l .inv .1, l .inv .2), l .inv .4))))
 
 -- src/search.rt:95:12
 closes-requires : tie.Need-closes-requires Inv-loop μ-loop
-closes-requires c κs = let a = c .before .before .before .before .before .before .before .before .before .before .before .before .before .before .before .before .before .before .before .before .before .before .before .before .before .before .before .args in
+closes-requires c κs = let a = c .before .before .before .before .before .before .before .before .before .before .before .before .before .before .before .before .before .before .before .before .args in
     let s = now (a .netlist) in
     let net = netOf s in
-    let p = c .before .before .before .before .before .before .before .before .before .before .before .before .before .before .before .before .before .before .before .before .before .before .before .before .before .before .before .pre in
+    let p = c .before .before .before .before .before .before .before .before .before .before .before .before .before .before .before .before .before .before .before .before .pre in
     let ne : a .n ≡ net .size = sound-size s (a .n) (pinCount s) (p .0) in
     let l = c .before .before .before .before .before .before .before .before .before .before .before .before .before .before .before .loop in
     let w = c .before .before .before .before .before .before .before .before .before .note-window in
@@ -65,11 +57,11 @@ closes-requires c κs = let a = c .before .before .before .before .before .befor
 
 -- src/search.rt:96:13
 same-length : tie.Need-same-length Inv-loop μ-loop
-same-length c = c .before .before .before .before .before .before .before .closes .kept .1 .1 .1 .1 .1 .0 ∙ c .before .before .before .before .before .before .before .before .before .before .before .before .before .before .before .before .before .note-window .kept .1 .1 .1 .1 .1 .1 .0 ∙ c .before .before .before .before .before .before .before .before .before .before .before .before .before .before .before .before .before .before .before .before .before .before .before .loop .inv .1 ∙ sym (c .before .before .before .before .before .before .before .before .before .before .before .before .before .before .before .before .before .before .before .before .before .before .before .before .before .before .before .before .before .before .before .before .before .before .before .pre .1 .1 .1 .0 .0)
+same-length c = c .before .before .before .before .before .before .before .closes .kept .1 .1 .1 .1 .1 .0 ∙ c .before .before .before .before .before .before .before .before .before .before .before .before .before .before .before .before .before .note-window .kept .1 .1 .1 .1 .1 .1 .0 ∙ c .before .before .before .before .before .before .before .before .before .before .before .before .before .before .before .before .before .before .before .before .before .before .before .loop .inv .1 ∙ sym (c .before .before .before .before .before .before .before .before .before .before .before .before .before .before .before .before .before .before .before .before .before .before .before .before .before .before .before .before .pre .1 .1 .1 .0 .0)
 
 -- src/search.rt:96:13
 same-length-2 : tie.Need-same-length-2 Inv-loop μ-loop
-same-length-2 c = c .before .before .before .before .before .before .before .closes .kept .1 .1 .1 .1 .1 .1 .0 ∙ c .before .before .before .before .before .before .before .before .before .before .before .before .before .before .before .before .before .note-window .kept .1 .1 .1 .1 .1 .1 .1 .0 ∙ c .before .before .before .before .before .before .before .before .before .before .before .before .before .before .before .before .before .before .before .before .before .before .before .loop .inv .2 ∙ sym (c .before .before .before .before .before .before .before .before .before .before .before .before .before .before .before .before .before .before .before .before .before .before .before .before .before .before .before .before .before .before .before .before .before .before .before .pre .1 .1 .1 .0 .1)
+same-length-2 c = c .before .before .before .before .before .before .before .closes .kept .1 .1 .1 .1 .1 .1 .0 ∙ c .before .before .before .before .before .before .before .before .before .before .before .before .before .before .before .before .before .note-window .kept .1 .1 .1 .1 .1 .1 .1 .0 ∙ c .before .before .before .before .before .before .before .before .before .before .before .before .before .before .before .before .before .before .before .before .before .before .before .loop .inv .2 ∙ sym (c .before .before .before .before .before .before .before .before .before .before .before .before .before .before .before .before .before .before .before .before .before .before .before .before .before .before .before .before .pre .1 .1 .1 .0 .1)
 
 -- src/search.rt:96:13
 same-length-3 : tie.Need-same-length-3 Inv-loop μ-loop
@@ -77,10 +69,10 @@ same-length-3 c = c .before .before .before .before .before .before .before .clo
 
 -- src/search.rt:96:13
 returns : tie.Need-returns Inv-loop μ-loop
-returns c = let a = c .before .before .before .before .before .before .before .before .before .before .before .before .before .before .before .before .before .before .before .before .before .before .before .before .before .before .before .before .before .before .before .before .before .before .before .args in
+returns c = let a = c .before .before .before .before .before .before .before .before .before .before .before .before .before .before .before .before .before .before .before .before .before .before .before .before .before .before .before .before .args in
     let s = now (a .netlist) in
     let net = netOf s in
-    let p = c .before .before .before .before .before .before .before .before .before .before .before .before .before .before .before .before .before .before .before .before .before .before .before .before .before .before .before .before .before .before .before .before .before .before .before .pre in
+    let p = c .before .before .before .before .before .before .before .before .before .before .before .before .before .before .before .before .before .before .before .before .before .before .before .before .before .before .before .before .pre in
     let ne : a .n ≡ net .size = sound-size s (a .n) (pinCount s) (p .0) in
     let l = c .before .before .before .before .before .before .before .before .before .before .before .before .before .before .before .before .before .before .before .before .before .before .before .loop in
     let low = c .before .before .before .before .before .before .before .before .before .before .before .before .before .before .before .before .before .before .before .before .before .if1 .taken in
@@ -88,14 +80,14 @@ returns c = let a = c .before .before .before .before .before .before .before .b
 
 -- src/search.rt:98:9
 next-requires : tie.Need-next-requires Inv-loop μ-loop
-next-requires c κs = omega (arith, c .before .before .before .before .before .before .before .before .before .before .before .before .before .before .before .before .before .before .before .before .before .if1 .taken, c .before .before .before .before .before .before .before .before .before .before .before .before .before .before .before .before .before .before .before .before .before .before .before .before .before .before .before .before .before .before .before .before .before .before .before .pre .1 .1 .0)
+next-requires c κs = omega (arith, c .before .before .before .before .before .before .before .before .before .before .before .before .before .before .before .before .before .before .before .before .before .if1 .taken, c .before .before .before .before .before .before .before .before .before .before .before .before .before .before .before .before .before .before .before .before .before .before .before .before .before .before .before .before .pre .1 .1 .0)
 
 -- src/search.rt:93:5
 loop-less : tie.Need-loop-less Inv-loop μ-loop
-loop-less c = let a = c .before .before .before .before .before .before .before .before .before .before .before .before .before .before .before .before .before .before .before .before .before .before .before .before .before .before .before .before .before .before .before .before .before .before .before .before .args in
+loop-less c = let a = c .before .before .before .before .before .before .before .before .before .before .before .before .before .before .before .before .before .before .before .before .before .before .before .before .before .before .before .before .before .args in
     let s = now (a .netlist) in
     let net = netOf s in
-    let p = c .before .before .before .before .before .before .before .before .before .before .before .before .before .before .before .before .before .before .before .before .before .before .before .before .before .before .before .before .before .before .before .before .before .before .before .before .pre in
+    let p = c .before .before .before .before .before .before .before .before .before .before .before .before .before .before .before .before .before .before .before .before .before .before .before .before .before .before .before .before .before .pre in
     let ne : a .n ≡ net .size = sound-size s (a .n) (pinCount s) (p .0) in
     let l = c .before .before .before .before .before .before .before .before .before .before .before .before .before .before .before .before .before .before .before .before .before .before .before .before .loop in
     let q : left (a .b) (nextSplit (a .n) (a .f) (l .split)) < left (a .b) (l .split) = left-less (a .n) (a .f) (a .b) (l .split) (omega (arith, facts s (a .n) (pinCount s) (p .0) .few-nodes)) (omega (arith, p .1 .1 .0)) (c .before .before .before .before .before .before .before .before .before .before .before .before .before .before .before .before .before .before .before .before .before .before .if1 .taken) (l .inv .0 .frame-within) (omega arith) in
@@ -103,10 +95,10 @@ loop-less c = let a = c .before .before .before .before .before .before .before 
 
 -- src/search.rt:93:5
 loop-again : tie.Need-loop-again Inv-loop μ-loop
-loop-again c = let a = c .before .before .before .before .before .before .before .before .before .before .before .before .before .before .before .before .before .before .before .before .before .before .before .before .before .before .before .before .before .before .before .before .before .before .before .before .args in
+loop-again c = let a = c .before .before .before .before .before .before .before .before .before .before .before .before .before .before .before .before .before .before .before .before .before .before .before .before .before .before .before .before .before .args in
     let s = now (a .netlist) in
     let net = netOf s in
-    let p = c .before .before .before .before .before .before .before .before .before .before .before .before .before .before .before .before .before .before .before .before .before .before .before .before .before .before .before .before .before .before .before .before .before .before .before .before .pre in
+    let p = c .before .before .before .before .before .before .before .before .before .before .before .before .before .before .before .before .before .before .before .before .before .before .before .before .before .before .before .before .before .pre in
     let ne : a .n ≡ net .size = sound-size s (a .n) (pinCount s) (p .0) in
     let l = c .before .before .before .before .before .before .before .before .before .before .before .before .before .before .before .before .before .before .before .before .before .before .before .before .loop in
     let z = c .before .before .before .before .before .before .before .before .closes in
@@ -117,11 +109,11 @@ loop-again c = let a = c .before .before .before .before .before .before .before
 
 -- src/search.rt:69:1
 same-length-4 : tie.Need-same-length-4 Inv-loop μ-loop
-same-length-4 c = c .before .before .loop .inv .1 ∙ sym (c .before .before .before .before .before .before .before .before .before .before .before .before .before .before .pre .1 .1 .1 .0 .0)
+same-length-4 c = c .before .before .loop .inv .1 ∙ sym (c .before .before .before .before .before .before .before .pre .1 .1 .1 .0 .0)
 
 -- src/search.rt:69:1
 same-length-5 : tie.Need-same-length-5 Inv-loop μ-loop
-same-length-5 c = c .before .before .loop .inv .2 ∙ sym (c .before .before .before .before .before .before .before .before .before .before .before .before .before .before .pre .1 .1 .1 .0 .1)
+same-length-5 c = c .before .before .loop .inv .2 ∙ sym (c .before .before .before .before .before .before .before .pre .1 .1 .1 .0 .1)
 
 -- src/search.rt:69:1
 same-length-6 : tie.Need-same-length-6 Inv-loop μ-loop
@@ -129,10 +121,10 @@ same-length-6 c = c .before .before .loop .inv .3
 
 -- src/search.rt:69:1
 returns-2 : tie.Need-returns-2 Inv-loop μ-loop
-returns-2 c = let a = c .before .before .before .before .before .before .before .before .before .before .before .before .before .before .args in
+returns-2 c = let a = c .before .before .before .before .before .before .before .args in
     let s = now (a .netlist) in
     let net = netOf s in
-    let p = c .before .before .before .before .before .before .before .before .before .before .before .before .before .before .pre in
+    let p = c .before .before .before .before .before .before .before .pre in
     let ne : a .n ≡ net .size = sound-size s (a .n) (pinCount s) (p .0) in
     let l = c .before .before .loop in
     (rw (lt-leb (l .split .c) (a .b) (c .if1 .left)) (sym (reached-end net (a .fault) (a .f) (a .b) (l .split) (l .inv .0) (c .if1 .left))), (l .inv .0 .frame-within, omega arith))
@@ -143,7 +135,6 @@ walk-splits-spec =
     (tie.spec
     Inv-loop
     μ-loop
-    first-window-requires
     loop-holds
     note-window-requires
     closes-requires
