@@ -20,10 +20,10 @@ use Rattle.circuit.specs.ClockLists.{InputBits, LatchedBits, clockStart, latche
 use Rattle.circuit.specs.Fault.{StuckLines}
 use Rattle.circuit.specs.Netlist.{Net}
 
--- one more place holds 0 or 1
-pub bits-more : (l : List ℕ) (i v : ℕ) → i < length l → v < 2 → ((k : ℕ) → k < i → at l k < 2) → (k : ℕ) → k < i + 1 → at (set l i v) k < 2
-bits-more l i v h b p =
-    below-more (λ (k : ℕ). at (set l i v) k < 2) i (λ k q. set-either (λ x. x < 2) l i k v 0 (λ _. b) (p k q)) (rw (getD-set-same l i v 0 h) b)
+-- one more place holds a value below m
+pub small-more : (m : ℕ) (l : List ℕ) (i v : ℕ) → i < length l → v < m → ((k : ℕ) → k < i → at l k < m) → (k : ℕ) → k < i + 1 → at (set l i v) k < m
+small-more m l i v h b p =
+    below-more (λ (k : ℕ). at (set l i v) k < m) i (λ k q. set-either (λ x. x < m) l i k v 0 (λ _. b) (p k q)) (rw (getD-set-same l i v 0 h) b)
 
 -- one more place is copied
 pub copy-more : (from to : List ℕ) (i : ℕ) → i < length from → i < length to → take i to ≡ take i from → take (i + 1) (set to i (at from i)) ≡ take (i + 1) from

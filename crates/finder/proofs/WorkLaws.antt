@@ -106,6 +106,11 @@ unknowns-fewer (x ∷ xs) (suc i) h k = let r = unknowns-fewer xs i (le-of-suc-l
     go true r = omega arith
     go false r = omega arith
 
+-- before the first step, in an open branch
+pub open-tally : (known run : List ℕ) → tally (work known run 0 false) ≤ length known + 1
+unfolding tally
+open-tally known run = omega (arith, unknowns-most known)
+
 pub steps-within : (w : Work) → w .steps ≤ tally w
 unfolding tally
 steps-within w = omega arith

@@ -1,6 +1,6 @@
 use native.Mathlib.Omega.{arith}
 use borrow.Author.Needs.{needs}
-use Rattle.finder.proofs.WitnessLaws.{bits-more}
+use Rattle.finder.proofs.WitnessLaws.{small-more}
 use Rattle.values.specs.Lists.{at}
 use lib.ListN.{length, length-set}
 use mathlib.Core.Path.{_≡_, refl}
@@ -45,7 +45,7 @@ loop-less c = omega arith
 -- src/random.rt:46:5
 loop-again : tie.Need-loop-again Inv-loop μ-loop
 loop-again c = let l = c .before .before .before .loop in
-    (omega arith, simp length-set (l .inv .1), bits-more (l .values) (l .place) (c .bit-of .result) (omega arith) (c .bit-of .ensures) (l .inv .2))
+    (omega arith, simp length-set (l .inv .1), small-more 2 (l .values) (l .place) (c .bit-of .result) (omega arith) (c .bit-of .ensures) (l .inv .2))
 
 -- src/random.rt:41:1
 same-length : tie.Need-same-length Inv-loop μ-loop
