@@ -12,6 +12,7 @@ ghost use Rattle.finder.specs.Marks.{IsMark, NoneCloses};
 ghost use Rattle.finder.specs.Work.{NotedStayOpen};
 use crate::branch::closes;
 use crate::branch::work_branch;
+use crate::guess::grow;
 use crate::notes::note_window;
 use crate::split::Split;
 use crate::witness::rules_out;
@@ -128,6 +129,7 @@ fn first_split(
         };
     }
     let mut noted = [0u8; NOTED_LENGTH];
+    grow(netlist, n, fault, b, f, &mut noted, known, marks);
     walk_splits(netlist, n, fault, c, b, f, known, marks, &mut noted)
 }
 
