@@ -120,17 +120,17 @@ fn first_split(
     ensures { λ r. ⌜ cond (leb (r .c) b) (some r) none ≡ firstSplit (netOf (now (netlist .entry))) fault f b ⌝ }
     ensures { λ r. ⌜ (r .frame ≤ r .c + f) × (r .node < n) ⌝ }
 {
-    let c = first_window(netlist, n, fault, b, f, known, marks);
-    if c > b {
+    let first = first_window(netlist, n, fault, b, f, known, marks);
+    if first > b {
         return Split {
-            c,
+            c: first,
             frame: 0,
             node: 0,
         };
     }
     let mut noted = [0u8; NOTED_LENGTH];
     grow(netlist, n, fault, b, f, &mut noted, known, marks);
-    walk_splits(netlist, n, fault, c, b, f, known, marks, &mut noted)
+    walk_splits(netlist, n, fault, first, b, f, known, marks, &mut noted)
 }
 
 // Writes the certificate of a split whose branches close: branch 1's steps straight after branch
