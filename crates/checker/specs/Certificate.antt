@@ -65,7 +65,8 @@ module _ (bs : List ℕ) where
 abbrev pub stepOf : List ℕ → Step
 stepOf bs = record { node = u16At bs 0; frame = at bs 2; value = at bs 3; via = u16At bs 4; during = at bs 6 }
 
--- What a run has at a position: a step, with the position behind it, or its end.
+-- What a run has at a position: a step, where 7 bytes are left, with the position behind it, or else its end. Only the contracts of the
+-- step reader speak of it; what `check` promises rests on `stepsOf`.
 unfoldable pub nextStep : List ℕ → ℕ → NextStep
 nextStep run i = cond (leb (i + 7) (length run)) (NextStep.Read (stepOf (drop i run)) (i + 7)) NextStep.End
 

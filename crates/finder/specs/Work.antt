@@ -1,4 +1,5 @@
--- The sweeps on lent bytes: what the contracts of the functions beneath `find` speak of. Nothing of what the finder answers rests on it.
+-- The sweeps on lent bytes, calm frames, and the notes of splits that stay open: what the contracts of the functions beneath `find` speak
+-- of. Nothing of what the finder answers rests on it.
 use mathlib.Core.Bool.{Bool, false, not, true}
 use mathlib.Core.List.{List, [], _∷_}
 use mathlib.Core.Logic.{_⊎_}

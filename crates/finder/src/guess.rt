@@ -62,7 +62,7 @@ fn settles(
     !checker::effect_dies(netlist, fault, b, f, known, marks)
 }
 
-// Whether a node's value at a frame follows from no relation: an input, or a flip-flop at the start.
+// Whether a node has no relation at a frame by its kind: an input, or a flip-flop at frame 0.
 fn is_free(netlist: &[u8], node: u16, frame: u8) -> bool {
     let kind = circuit::kind_of(netlist, node);
     if kind == FLIP_FLOP {

@@ -132,8 +132,8 @@ fn note_guess(
     note_known(known, c, noted);
 }
 
-// Before the first split of a window is tried, notes what is guessed for it. The guess is for the window
-// of b; the last of its frames are as many as the window of c has, and lie alike around the fault frame.
+// Before the first split of a window is tried, notes what is guessed for it. The guess is for the
+// window of b: its last c + f + 1 frames lie around the fault frame as those of the window of c do.
 pub(crate) fn note_window(
     netlist: &[u8],
     n: u16,

@@ -22,8 +22,8 @@ use checker::STEP_LENGTH;
 use circuit::Fault;
 use circuit::Reading;
 
-// Room to note splits that stay open, by their places. Those of the last frame of the longest window
-// of the greatest circuits have none, and are worked out.
+// Room for the guess and for notes of splits that stay open, by their places. In the longest window
+// of the greatest circuits nothing is guessed, and splits at the last places are always worked out.
 const NOTED_LENGTH: usize = 57344;
 
 // The finder's answer: found with c, the certificate's length and its step count, or none, or the
@@ -34,8 +34,8 @@ pub enum Finding {
     Refused(u8),
 }
 
-// The first c whose window is searched: a fault that is seen from a clock on has no split that closes
-// for any c up to that clock. Above b where it is seen from clock b on.
+// The first c whose window is searched: a fault that is seen at or after a clock has no split that
+// closes for any c up to that clock. Above b where it is seen at or after clock b.
 fn first_window(
     netlist: &[u8],
     n: u16,
@@ -64,9 +64,9 @@ fn first_window(
     c
 }
 
-// Walks the splits from the window of c on, up to the first whose two branches close, by c up to b,
-// then frame, then node; where none does, to one whose c is above b. Splits that were shown to stay open are noted, at the
-// start of a window those of a guess.
+// Walks the splits from the window of c on, by c up to b, then frame, then node, up to the first
+// whose two branches close; where none does, to one whose c is above b. Splits that are shown to stay
+// open are noted: at the start of a window those of the guess.
 fn walk_splits(
     netlist: &[u8],
     n: u16,

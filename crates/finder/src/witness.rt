@@ -1,5 +1,5 @@
 // Clocks with pseudo-random inputs: an output of the faulty circuit that differs from the good
-// circuit's shows that no certificate is to be had, so the search may be spared.
+// circuit's at or after clock c shows that no split closes for c or below, so none need be tried.
 ghost use mathlib.Core.Path.{_≡_};
 ghost use mathlib.Core.Bool.{_&&_, not, true};
 ghost use Prim.Native.Nat.{ℕ, _<_, _≤_};
@@ -187,7 +187,8 @@ fn trial(
     run_both(netlist, n, fault, next, first, second, third, fourth)
 }
 
-// Whether the fault is seen at an output at or after clock c, in slices of n bytes, whatever they hold.
+// Whether a trial shows the fault at an output at or after clock c, in slices of n bytes, whatever
+// they hold.
 fn is_seen(
     netlist: &[u8],
     n: u16,
@@ -212,7 +213,7 @@ fn is_seen(
     false
 }
 
-// Whether the fault is seen at or after clock c. The first n bytes of both work slices are taken for it.
+// Whether a trial shows the fault at or after clock c. The first n bytes of both work slices are used.
 pub(crate) fn rules_out(
     netlist: &[u8],
     n: u16,
