@@ -3,16 +3,23 @@ NETLIST ?= examples/and2.net
 B ?= 0
 F ?= 0
 
-.PHONY: run test bench plot fmt tools clean
+.PHONY: run test examples bench plot fmt tools clean
 
 # Prints the report on NETLIST: the faults marked with c up to B, with F frames behind the fault frame.
 run: tools
 	@scripts/build report
 	@scripts/report "$(NETLIST)" "$(B)" "$(F)"
 
-# Proves every crate, tries every edit that the prover must refuse, and runs the Rust tests.
+# Proves every crate, tries every edit that the prover must refuse, and runs the Rust tests and the examples.
 test: tools
 	@scripts/test
+
+# Builds the examples for C and Rust over the library, and runs them.
+examples: tools
+	@scripts/build-library capi
+	@scripts/build-examples
+	@target/examples/mark-c
+	@target/examples/mark-rust
 
 # Times the library against the Rust model, in one run, and writes what is plotted to target/performance.dat.
 bench: tools
