@@ -7,7 +7,7 @@ F ?= 0
 
 # Prints the report on NETLIST: the faults marked with c up to B, with F frames behind the fault frame.
 run: tools
-	@scripts/build report
+	@scripts/build check report
 	@scripts/report "$(NETLIST)" "$(B)" "$(F)"
 
 # Proves every crate, tries every edit that the prover must refuse, and runs the Rust tests and the examples.
@@ -16,14 +16,14 @@ test: tools
 
 # Builds the examples for C and Rust over the library, and runs them.
 examples: tools
-	@scripts/build-library capi
+	@scripts/build staticlib capi
 	@scripts/build-examples
 	@target/examples/mark-c
 	@target/examples/mark-rust
 
 # Times the library against the Rust model, in one run, and writes what is plotted to target/performance.dat.
 bench: tools
-	@scripts/build-library capi
+	@scripts/build staticlib capi
 	@cd bench && cargo run --release --offline --quiet
 
 # Draws docs/performance.svg from the last run of the benchmark; where there is none, it is run.

@@ -21,7 +21,7 @@ fn printed_for_pieces(pieces: &[&[u8]]) -> String {
     let path = repository().join("target/bin/report");
     assert!(
         path.is_file(),
-        "{} is missing: build it with scripts/build report",
+        "{} is missing: build it with scripts/build check report",
         path.display()
     );
     let mut program = Command::new(path)
