@@ -3,7 +3,7 @@ NETLIST ?= examples/and2.net
 B ?= 0
 F ?= 0
 
-.PHONY: run test bench plot fmt tools clean
+.PHONY: run test bench plot judge fmt tools clean
 
 # Prints the report on NETLIST: the faults marked with c up to B, with F frames behind the fault frame.
 run: tools
@@ -26,13 +26,18 @@ plot: target/performance.dat
 target/performance.dat:
 	@$(MAKE) --no-print-directory bench
 
+# Has Berkeley's model checker, which knows nothing of the kit, confirm the marks of the report on the examples.
+judge: tools
+	@scripts/judge
+
 fmt: tools
 	rt fmt
 	cd tests && cargo fmt
 	cd bench && cargo fmt
+	cd judge && cargo fmt
 
 tools:
 	@scripts/tools
 
 clean:
-	rm -rf target tests/target bench/target
+	rm -rf target tests/target bench/target judge/target
