@@ -1,9 +1,10 @@
 //! Berkeley's abc, which decides whether a circuit's output is ever 1.
 
 use crate::blif::MODEL;
+use std::fmt::Display;
 use std::fs;
 use std::path::{Path, PathBuf};
-use std::process::{Command, Output};
+use std::process::Command;
 use std::sync::atomic::{AtomicUsize, Ordering};
 
 /// Debian's name of the program.
@@ -20,63 +21,70 @@ pub enum Verdict {
     Undecided,
 }
 
+impl Verdict {
+    pub fn name(self) -> &'static str {
+        match self {
+            Verdict::Proved => "proved",
+            Verdict::Refuted => "refuted",
+            Verdict::Undecided => "undecided",
+        }
+    }
+}
+
 /// How abc is called.
 pub struct Abc {
     /// Where the claim that is being decided is written.
     directory: PathBuf,
-    /// The seconds that it may take for a claim.
+    /// The processor seconds that it may take for a claim.
     limit: u32,
 }
 
 impl Abc {
     pub fn new(directory: &Path, limit: u32) -> Result<Self, String> {
         let directory = directory.to_path_buf();
-        fs::create_dir_all(&directory).map_err(|error| format!("{directory:?}: {error}"))?;
+        fs::create_dir_all(&directory).map_err(|error| at(&directory, error))?;
         Ok(Abc { directory, limit })
     }
 
-    /// Decides whether the output of the circuit is never 1.
+    /// Decides whether the output of a circuit is never 1. Where that fails the
+    /// circuit's file is left to be looked at.
     pub fn decide(&self, blif: &str) -> Result<Verdict, String> {
-        // A name of its own for each, since tests decide several at once.
+        // Names of their own, since several may be decided at once.
         static CLAIMS: AtomicUsize = AtomicUsize::new(0);
         let number = CLAIMS.fetch_add(1, Ordering::Relaxed);
-        let path = self.directory.join(format!("claim{number}.blif"));
-        fs::write(&path, blif).map_err(|error| format!("{path:?}: {error}"))?;
-        let verdict = run(&self.script(&path)).and_then(|text| verdict(&text));
-        let verdict = verdict.map_err(|error| format!("{path:?}: {error}"))?;
-        fs::remove_file(&path).map_err(|error| format!("{path:?}: {error}"))?;
+        let name = format!("claim{number}.blif");
+        let path = self.directory.join(&name);
+        fs::write(&path, blif).map_err(|error| at(&path, error))?;
+        let script = format!("read_blif {name}; strash; pdr -T {}", self.limit);
+        let verdict = self.run(&script).and_then(|text| verdict(&text));
+        let verdict = verdict.map_err(|error| at(&path, error))?;
+        fs::remove_file(&path).map_err(|error| at(&path, error))?;
         Ok(verdict)
     }
 
-    fn script(&self, path: &Path) -> String {
-        format!(
-            "read_blif {}; strash; pdr -T {}",
-            path.display(),
-            self.limit
-        )
+    /// Starts abc and ends it, which is a part of the time of every claim.
+    pub fn start_only(&self) -> Result<(), String> {
+        self.run("quit").map(|_| ())
+    }
+
+    /// What abc prints for a script.
+    fn run(&self, script: &str) -> Result<String, String> {
+        let mut command = Command::new(PROGRAM);
+        let command = command.args(["-q", script]).current_dir(&self.directory);
+        let output = command.output().map_err(|error| at(PROGRAM, error))?;
+        let [text, errors] =
+            [&output.stdout, &output.stderr].map(|bytes| String::from_utf8_lossy(bytes));
+        if !output.status.success() || !errors.is_empty() {
+            let status = output.status;
+            return Err(format!("{PROGRAM} ended with {status}: {text}{errors}"));
+        }
+        Ok(text.into_owned())
     }
 }
 
-/// Starts abc and ends it at once, to tell how much of a time is that.
-pub fn start_only() -> Result<(), String> {
-    run("quit").map(|_| ())
-}
-
-/// What abc prints for a script.
-fn run(script: &str) -> Result<String, String> {
-    let output = Command::new(PROGRAM).args(["-q", script]).output();
-    let output = output.map_err(|error| format!("{PROGRAM}: {error}"))?;
-    let Output {
-        status,
-        stdout,
-        stderr,
-    } = output;
-    let text = String::from_utf8_lossy(&stdout).into_owned();
-    if !status.success() || !stderr.is_empty() {
-        let errors = String::from_utf8_lossy(&stderr);
-        return Err(format!("{PROGRAM} ended with {status}: {text}{errors}"));
-    }
-    Ok(text)
+/// An error and what it is about.
+fn at(subject: impl AsRef<Path>, error: impl Display) -> String {
+    format!("{}: {error}", subject.as_ref().display())
 }
 
 /// The verdict in abc's words. Every line must be one that is expected: a warning

@@ -39,7 +39,9 @@ impl Known {
         match abc.decide(&blif::claim(&self.netlist, *fault, *c))? {
             verdict if verdict == expected => Ok(()),
             verdict => Err(format!(
-                "known claim: {fault}, c {c}, is {verdict:?} and not {expected:?} in {:?}",
+                "known claim: {fault}, c {c}, must be {} and is {}, in {:?}",
+                expected.name(),
+                verdict.name(),
                 self.netlist.nodes
             )),
         }

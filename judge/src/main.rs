@@ -1,15 +1,15 @@
 //! Judges the marks of the report on the examples. Ends with status 1 if a known
 //! claim is answered wrongly or a mark is not confirmed.
 
-use leverpeach_judge::abc::{self, Abc};
+use leverpeach_judge::abc::{Abc, Verdict};
 use leverpeach_judge::report::Program;
 use leverpeach_judge::review::{review, Case, Review, CASES};
 use leverpeach_judge::{known, measure, table};
 use std::path::Path;
 use std::process::ExitCode;
 
-/// The seconds that abc may take for a claim.
-const LIMIT: u32 = 60;
+/// The processor seconds that abc may take for a claim.
+const LIMIT: u32 = 10;
 
 fn main() -> ExitCode {
     let repository = Path::new(env!("CARGO_MANIFEST_DIR")).join("..");
@@ -28,7 +28,7 @@ fn judge(repository: &Path) -> Result<bool, String> {
     let abc = Abc::new(&repository.join("target/judge"), LIMIT)?;
     let known = known::try_all(&abc)?;
     println!("{known} known claims are answered as they must be.");
-    let start = measure::seconds_per_run(abc::start_only)?;
+    let start = measure::seconds_per_run(|| abc.start_only())?;
     println!(
         "Starting abc takes {} s of each claim.",
         table::three_digits(start)
@@ -51,8 +51,8 @@ fn judge_report(case: &'static Case, program: &Program, abc: &Abc) -> Result<Rev
     review(case, program, abc).map_err(|error| format!("{circuit}, B {b}, F {f}: {error}"))
 }
 
-/// Prints what is not confirmed, and the counts of all marks. Gives whether
-/// there is nothing that must not be.
+/// Prints what is not confirmed, and the count of all marks. Gives whether every
+/// mark is confirmed.
 fn print_end(reviews: &[Review]) -> bool {
     for review in reviews {
         let Case { circuit, b, f } = review.case;
@@ -60,9 +60,11 @@ fn print_end(reviews: &[Review]) -> bool {
             println!("{circuit}, B {b}, F {f}: {failure}");
         }
     }
-    let confirmed: usize = reviews.iter().map(|review| review.marks.proved).sum();
-    let refuted: usize = reviews.iter().map(|review| review.marks.refuted).sum();
-    let undecided: usize = reviews.iter().map(|review| review.marks.undecided).sum();
+    let [confirmed, refuted, undecided] = [Verdict::Proved, Verdict::Refuted, Verdict::Undecided]
+        .map(|verdict| {
+            let counts = reviews.iter().map(|review| review.marks.count(verdict));
+            counts.sum::<usize>()
+        });
     println!("{confirmed} marks confirmed, {refuted} refuted, {undecided} undecided");
     reviews.iter().all(|review| review.failures.is_empty())
 }

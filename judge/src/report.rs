@@ -22,7 +22,7 @@ pub struct Report {
 
 impl Report {
     /// Whether the report marks a fault.
-    pub fn marks(&self, fault: Fault) -> bool {
+    pub fn has(&self, fault: Fault) -> bool {
         self.marks.iter().any(|mark| mark.fault == fault)
     }
 

@@ -37,60 +37,63 @@ pub const CASES: [Case; 10] = [
     Case::new("mix100", 7, 7),
 ];
 
-/// How often each verdict was given.
-#[derive(Default)]
-pub struct Tally {
-    pub proved: usize,
-    pub refuted: usize,
-    pub undecided: usize,
+/// A claim, that from clock c on no output shows the fault, and its verdict.
+pub struct Judged {
+    pub fault: Fault,
+    pub c: usize,
+    pub verdict: Verdict,
 }
 
-impl Tally {
-    fn of(verdicts: &[Verdict]) -> Self {
-        let count = |wanted| {
-            verdicts
-                .iter()
-                .filter(|verdict| **verdict == wanted)
-                .count()
-        };
-        Tally {
-            proved: count(Verdict::Proved),
-            refuted: count(Verdict::Refuted),
-            undecided: count(Verdict::Undecided),
-        }
+/// Claims of one kind, and the processor seconds that it took to judge them.
+pub struct Verdicts {
+    pub claims: Vec<Judged>,
+    pub seconds: f64,
+}
+
+impl Verdicts {
+    /// Judges claims about a netlist, each a fault and its c.
+    fn new(
+        abc: &Abc,
+        netlist: &Netlist,
+        claims: impl Iterator<Item = (Fault, usize)>,
+    ) -> Result<Self, String> {
+        let judged = claims.map(|(fault, c)| {
+            let verdict = abc.decide(&blif::claim(netlist, fault, c))?;
+            Ok(Judged { fault, c, verdict })
+        });
+        let (seconds, claims) = seconds_of(|| judged.collect::<Result<_, String>>());
+        let claims = claims?;
+        Ok(Verdicts { claims, seconds })
+    }
+
+    pub fn count(&self, verdict: Verdict) -> usize {
+        self.with(verdict).count()
+    }
+
+    fn with(&self, verdict: Verdict) -> impl Iterator<Item = Fault> + '_ {
+        let claims = self.claims.iter();
+        let claims = claims.filter(move |claim| claim.verdict == verdict);
+        claims.map(|claim| claim.fault)
     }
 }
 
-/// What the judge says of a report. Times are processor seconds.
+/// What the judge says of a report.
 pub struct Review {
     pub case: &'static Case,
     pub netlist: Netlist,
-    pub faults: usize,
-    /// The marks, each at its own c.
-    pub marks: Tally,
-    /// All faults, at c = B.
-    pub all: Tally,
-    /// The faults that the judge finds redundant and the report does not mark.
-    pub unmarked: Vec<Fault>,
-    /// How many of these are marked with as many frames behind the fault frame
-    /// as there may be.
-    pub marked_with_most_frames: usize,
+    /// The processor seconds of the report.
     pub report_seconds: f64,
-    pub marks_seconds: f64,
-    pub all_seconds: f64,
+    /// The marks, each at its own c.
+    pub marks: Verdicts,
+    /// All faults, at c = B.
+    pub faults: Verdicts,
+    /// The faults that are redundant and not marked.
+    pub unmarked: Vec<Fault>,
+    /// How many of these the report marks if it has as many frames behind the
+    /// fault frame as there may be.
+    pub marked_with_most_frames: usize,
     /// Marks that are not confirmed, in words.
     pub failures: Vec<String>,
-}
-
-impl Review {
-    pub fn mark_count(&self) -> usize {
-        let Tally {
-            proved,
-            refuted,
-            undecided,
-        } = self.marks;
-        proved + refuted + undecided
-    }
 }
 
 /// Runs a report and judges it.
@@ -98,51 +101,38 @@ pub fn review(case: &'static Case, program: &Program, abc: &Abc) -> Result<Revie
     let Case { circuit, b, f } = *case;
     let bytes = program.example(circuit)?;
     let netlist = Netlist::read(&bytes)?;
-    let faults = fault::all_of(&netlist);
+    let all = fault::all_of(&netlist);
     let report = program.report(&bytes, b, f)?;
-    sees_these_faults(&report, &faults, b)?;
+    see_that_it_fits(&report, &all, b)?;
     let report_seconds = seconds_per_run(|| program.print(&bytes, b, f).map(|_| ()))?;
 
     let marked = report.marks.iter().map(|mark| (mark.fault, mark.c));
-    let (marks_seconds, of_marks) = seconds_of(|| decide(abc, &netlist, marked));
-    let at_b = faults.iter().map(|fault| (*fault, usize::from(b)));
-    let (all_seconds, of_all) = seconds_of(|| decide(abc, &netlist, at_b));
-    let (of_marks, of_all) = (of_marks?, of_all?);
+    let marks = Verdicts::new(abc, &netlist, marked)?;
+    let at_b = all.iter().map(|fault| (*fault, usize::from(b)));
+    let faults = Verdicts::new(abc, &netlist, at_b)?;
 
-    let redundant = faults.iter().zip(&of_all);
-    let redundant = redundant.filter(|(_, verdict)| **verdict == Verdict::Proved);
-    let unmarked = redundant.map(|(fault, _)| *fault);
-    let unmarked: Vec<Fault> = unmarked.filter(|fault| !report.marks(*fault)).collect();
+    let redundant = faults.with(Verdict::Proved);
+    let unmarked: Vec<Fault> = redundant.filter(|fault| !report.has(*fault)).collect();
     let longest = program.report(&bytes, b, MOST_FRAMES - 1 - b)?;
+    let late = unmarked.iter().filter(|fault| longest.has(**fault));
     Ok(Review {
         case,
-        faults: faults.len(),
-        marks: Tally::of(&of_marks),
-        all: Tally::of(&of_all),
-        marked_with_most_frames: unmarked
-            .iter()
-            .filter(|fault| longest.marks(**fault))
-            .count(),
-        unmarked,
         report_seconds,
-        marks_seconds,
-        all_seconds,
-        failures: failures(&report, &of_marks, &faults, &of_all),
+        marked_with_most_frames: late.count(),
+        unmarked,
+        failures: failures(&report, &marks, &faults),
+        marks,
+        faults,
         netlist,
     })
 }
 
-/// Sees that the report is one on these faults: it counts as many, and each mark
-/// is of one of them, in their order, with a c up to B.
-fn sees_these_faults(report: &Report, faults: &[Fault], b: u8) -> Result<(), String> {
-    if report.faults != faults.len() {
-        let Report {
-            faults: counted, ..
-        } = report;
-        return Err(format!(
-            "the report counts {counted} faults, not {}",
-            faults.len()
-        ));
+/// Sees that the report is one on these faults: it counts as many, and marks
+/// some of them, in their order, with a c up to B.
+fn see_that_it_fits(report: &Report, faults: &[Fault], b: u8) -> Result<(), String> {
+    let (counted, there) = (report.faults, faults.len());
+    if counted != there {
+        return Err(format!("the report counts {counted} faults, not {there}"));
     }
     let mut rest = faults.iter();
     for Mark { fault, c } in &report.marks {
@@ -156,31 +146,15 @@ fn sees_these_faults(report: &Report, faults: &[Fault], b: u8) -> Result<(), Str
     Ok(())
 }
 
-/// The verdicts on claims, each a fault and its c.
-fn decide(
-    abc: &Abc,
-    netlist: &Netlist,
-    claims: impl Iterator<Item = (Fault, usize)>,
-) -> Result<Vec<Verdict>, String> {
-    let verdicts = claims.map(|(fault, c)| abc.decide(&blif::claim(netlist, fault, c)));
-    verdicts.collect()
-}
-
 /// The marks that are not proved at their own c, and those refuted at B.
-fn failures(
-    report: &Report,
-    of_marks: &[Verdict],
-    faults: &[Fault],
-    of_all: &[Verdict],
-) -> Vec<String> {
-    let marks = report.marks.iter().zip(of_marks);
-    let unconfirmed = marks.filter(|(_, verdict)| **verdict != Verdict::Proved);
-    let unconfirmed = unconfirmed.map(|(Mark { fault, c }, verdict)| {
-        format!("the mark of {fault} with c {c} is {verdict:?}")
+fn failures(report: &Report, marks: &Verdicts, faults: &Verdicts) -> Vec<String> {
+    let marks = marks.claims.iter();
+    let unconfirmed = marks.filter(|mark| mark.verdict != Verdict::Proved);
+    let unconfirmed = unconfirmed.map(|Judged { fault, c, verdict }| {
+        format!("the mark of {fault} with c {c} is {}", verdict.name())
     });
-    let all = faults.iter().zip(of_all);
-    let refuted =
-        all.filter(|(fault, verdict)| **verdict == Verdict::Refuted && report.marks(**fault));
-    let refuted = refuted.map(|(fault, _)| format!("{fault} is marked, and refuted at B"));
+    let refuted = faults.with(Verdict::Refuted);
+    let refuted = refuted.filter(|fault| report.has(*fault));
+    let refuted = refuted.map(|fault| format!("the mark of {fault} is refuted at B"));
     unconfirmed.chain(refuted).collect()
 }

@@ -1,6 +1,7 @@
 //! What the judge found, in Markdown, so that docs/JUDGE.md can take it over as
 //! it is printed.
 
+use crate::abc::Verdict;
 use crate::netlist::Kind;
 use crate::review::Review;
 
@@ -25,19 +26,21 @@ pub fn print_verdicts(reviews: &[Review]) {
 }
 
 fn verdict_row(review: &Review) -> [String; 12] {
+    let Review { marks, faults, .. } = review;
+    let redundant = faults.count(Verdict::Proved);
     [
         review.case.circuit.to_string(),
         review.netlist.nodes.len().to_string(),
         bounds(review),
-        review.faults.to_string(),
-        review.mark_count().to_string(),
-        review.marks.proved.to_string(),
-        review.all.proved.to_string(),
-        review.all.undecided.to_string(),
-        share(review.mark_count(), review.all.proved),
+        faults.claims.len().to_string(),
+        marks.claims.len().to_string(),
+        marks.count(Verdict::Proved).to_string(),
+        redundant.to_string(),
+        faults.count(Verdict::Undecided).to_string(),
+        share(marks.claims.len(), redundant),
         three_digits(review.report_seconds),
-        three_digits(review.marks_seconds),
-        three_digits(review.all_seconds),
+        three_digits(marks.seconds),
+        three_digits(faults.seconds),
     ]
 }
 

@@ -32,7 +32,7 @@ fn judged(fault: model::Fault) -> Fault {
 #[test]
 fn the_exact_search_agrees() {
     let directory = Path::new(env!("CARGO_TARGET_TMPDIR"));
-    let abc = Abc::new(directory, 60).expect("claims can be written");
+    let abc = Abc::new(directory, 10).expect("claims can be written");
     let (mut proved, mut refuted) = (0, 0);
     run("claims judged", CIRCUITS, |_, random| {
         let draft = small::any(random);
