@@ -87,13 +87,20 @@ pub struct Review {
     pub marks: Verdicts,
     /// All faults, at c = B.
     pub faults: Verdicts,
-    /// The faults that are redundant and not marked.
-    pub unmarked: Vec<Fault>,
-    /// How many of these the report marks if it has as many frames behind the
-    /// fault frame as there may be.
-    pub marked_with_most_frames: usize,
+    pub unmarked: Unmarked,
     /// Marks that are not confirmed, in words.
     pub failures: Vec<String>,
+}
+
+/// The faults that are redundant and not marked.
+pub struct Unmarked {
+    pub faults: Vec<Fault>,
+    /// How many of them are redundant at c = 0 already: from any latched values,
+    /// whatever the clocks before would have left.
+    pub from_any_state: usize,
+    /// How many of them the report marks with the same B if it has as many
+    /// frames behind the fault frame as there may be.
+    pub with_most_frames: usize,
 }
 
 /// Runs a report and judges it.
@@ -113,16 +120,20 @@ pub fn review(case: &'static Case, program: &Program, abc: &Abc) -> Result<Revie
 
     let redundant = faults.with(Verdict::Proved);
     let unmarked: Vec<Fault> = redundant.filter(|fault| !report.has(*fault)).collect();
+    let at_0 = unmarked.iter().map(|fault| (*fault, 0));
+    let at_0 = Verdicts::new(abc, &netlist, at_0)?;
     let longest = program.report(&bytes, b, MOST_FRAMES - 1 - b)?;
-    let late = unmarked.iter().filter(|fault| longest.has(**fault));
     Ok(Review {
         case,
         report_seconds,
-        marked_with_most_frames: late.count(),
-        unmarked,
         failures: failures(&report, &marks, &faults),
         marks,
         faults,
+        unmarked: Unmarked {
+            from_any_state: at_0.count(Verdict::Proved),
+            with_most_frames: unmarked.iter().filter(|fault| longest.has(**fault)).count(),
+            faults: unmarked,
+        },
         netlist,
     })
 }

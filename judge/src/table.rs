@@ -2,8 +2,9 @@
 //! it is printed.
 
 use crate::abc::Verdict;
-use crate::netlist::Kind;
-use crate::review::Review;
+use crate::fault::Fault;
+use crate::netlist::{Kind, Netlist};
+use crate::review::{Review, Unmarked};
 
 /// Prints marks, verdicts and times, a row for each report.
 pub fn print_verdicts(reviews: &[Review]) {
@@ -44,40 +45,47 @@ fn verdict_row(review: &Review) -> [String; 12] {
     ]
 }
 
-/// Prints what faults are redundant and not marked, a row for each report that
-/// leaves some out.
+/// Prints what is known of the faults that are redundant and not marked, a row
+/// for each report that leaves some out.
 pub fn print_unmarked(reviews: &[Review]) {
     let headings = [
         "Circuit",
         "B, F",
         "Redundant, not marked",
-        "Of these marked with the most frames",
+        "At c = 0 already",
+        "Marked with the most frames",
         "By the kind of their node",
     ];
-    let incomplete = reviews.iter().filter(|review| !review.unmarked.is_empty());
-    let rows: Vec<[String; 5]> = incomplete.map(unmarked_row).collect();
+    let rows: Vec<[String; 6]> = reviews.iter().filter_map(unmarked_row).collect();
     print(headings, &rows);
 }
 
-fn unmarked_row(review: &Review) -> [String; 5] {
-    [
-        review.case.circuit.to_string(),
-        bounds(review),
-        review.unmarked.len().to_string(),
-        review.marked_with_most_frames.to_string(),
-        kinds(review),
-    ]
+/// The row of a report, if it leaves a redundant fault out.
+fn unmarked_row(review: &Review) -> Option<[String; 6]> {
+    let Unmarked {
+        faults,
+        from_any_state,
+        with_most_frames,
+    } = &review.unmarked;
+    let row = || {
+        [
+            review.case.circuit.to_string(),
+            bounds(review),
+            faults.len().to_string(),
+            from_any_state.to_string(),
+            with_most_frames.to_string(),
+            kinds(faults, &review.netlist),
+        ]
+    };
+    (!faults.is_empty()).then(row)
 }
 
-/// How many of the faults that are not marked are at nodes of each kind.
-fn kinds(review: &Review) -> String {
-    let kind_of = |node: usize| review.netlist.nodes[node].kind;
+/// How many of the faults are at nodes of each kind.
+fn kinds(faults: &[Fault], netlist: &Netlist) -> String {
     let counts = Kind::ALL.iter().filter_map(|kind| {
-        let unmarked = review.unmarked.iter();
-        let count = unmarked
-            .filter(|fault| kind_of(fault.node) == *kind)
-            .count();
-        (count > 0).then(|| format!("{count} {}", kind.name()))
+        let at_kind = |fault: &&Fault| netlist.nodes[fault.node].kind == *kind;
+        let count = faults.iter().filter(at_kind).count();
+        (count > 0).then(|| format!("{} {count}", kind.name()))
     });
     counts.collect::<Vec<String>>().join(", ")
 }
@@ -103,6 +111,9 @@ fn share(part: usize, whole: usize) -> String {
 
 /// A number with three digits that count, and no more than six behind the point.
 pub fn three_digits(number: f64) -> String {
+    if number == 0.0 {
+        return "0".to_string();
+    }
     let digits = (2.0 - number.log10().floor()).clamp(0.0, 6.0);
     format!("{number:.0$}", digits as usize)
 }
