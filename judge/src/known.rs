@@ -1,9 +1,9 @@
 //! Claims whose answers are known beforehand. A judge that answers otherwise is
 //! not to be asked about anything else.
 //!
-//! Each hits a place where the two circuits could be put side by side wrongly,
-//! and they come in pairs, one that holds and one that fails, so that neither a
-//! judge that proves everything nor one that refutes everything gets through.
+//! Each hits a place where the two circuits could be put side by side wrongly.
+//! Many come in pairs, one that holds and one that fails, so that neither a judge
+//! that proves everything nor one that refutes everything gets through.
 
 use crate::abc::{Abc, Verdict};
 use crate::blif;

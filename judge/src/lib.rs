@@ -7,9 +7,10 @@
 //! the kit takes part in the answer: [`netlist`] reads the bytes anew, and
 //! windows, splits and certificates are not looked at.
 //!
-//! [`known`] are claims whose answers are known beforehand. [`report`] runs the
-//! kit's program, [`review`] judges what it printed, [`table`] shows the counts
-//! and the times that [`measure`] takes.
+//! [`known`] are claims whose answers are known beforehand, about circuits that
+//! are written out as a [`draft`]. [`report`] runs the kit's program, [`review`]
+//! judges what it printed, [`table`] shows the counts and the times that
+//! [`measure`] takes.
 
 pub mod abc;
 pub mod blif;
