@@ -3,7 +3,7 @@ NETLIST ?= examples/and2.net
 B ?= 0
 F ?= 0
 
-.PHONY: run test examples bench plot fmt tools clean
+.PHONY: run test examples judge bench plot fmt tools clean
 
 # Prints the report on NETLIST: the faults marked with c up to B, with F frames behind the fault frame.
 run: tools
@@ -21,6 +21,10 @@ examples: tools
 	@target/examples/mark-c
 	@target/examples/mark-rust
 
+# Has Berkeley's model checker, which knows nothing of the kit, confirm the marks of the report on the examples.
+judge: tools
+	@scripts/judge
+
 # Times the library against the Rust model, in one run, and writes what is plotted to target/performance.dat.
 bench: tools
 	@scripts/build staticlib capi
@@ -37,9 +41,10 @@ fmt: tools
 	rt fmt
 	cd tests && cargo fmt
 	cd bench && cargo fmt
+	cd judge && cargo fmt
 
 tools:
 	@scripts/tools
 
 clean:
-	rm -rf target tests/target bench/target
+	rm -rf target tests/target bench/target judge/target
