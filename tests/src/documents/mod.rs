@@ -1,0 +1,37 @@
+//! What the documents name, held against the repository: that files exist and
+//! define the names that are said to be theirs, and that files have as many
+//! lines as is written.
+
+mod checks;
+mod definitions;
+mod markdown;
+mod mentions;
+
+pub use checks::{check_reading, check_trace, Findings};
+
+use std::fs;
+use std::path::{Path, PathBuf};
+
+/// What stands at a path.
+pub enum Found {
+    File(String),
+    Folder,
+}
+
+/// The repository's top folder.
+pub fn top_folder() -> PathBuf {
+    Path::new(env!("CARGO_MANIFEST_DIR")).join("..")
+}
+
+/// What stands at a path from the repository's top.
+pub fn in_repository(path: &str) -> Option<Found> {
+    if path.starts_with('/') || path.split('/').any(|part| part == "..") {
+        return None;
+    }
+    let place = top_folder().join(path);
+    if place.is_dir() {
+        return Some(Found::Folder);
+    }
+    let bytes = fs::read(place).ok()?;
+    Some(Found::File(String::from_utf8_lossy(&bytes).into_owned()))
+}
