@@ -4,7 +4,7 @@
 use super::definitions::defines;
 use super::markdown::{blocks, Block, Line, Row};
 use super::mentions::{mentions_of_cell, Mention, Passage};
-use super::Found;
+use super::{Found, LookUp};
 
 /// The columns of each table of `docs/TRACE.md`.
 const TRACE_COLUMNS: [&str; 4] = ["Sentence", "Defined", "Proved or promised", "Tested"];
@@ -21,9 +21,6 @@ pub struct Findings {
     /// How many line counts were compared.
     pub counts: usize,
 }
-
-/// What stands at a path, if anything does.
-type LookUp = fn(&str) -> Option<Found>;
 
 /// Looks at `docs/TRACE.md`: tables of sentences, and where each is defined,
 /// proved and tested. Code spans in the last three columns are references.
@@ -47,7 +44,7 @@ fn check(document: &str, look_up: LookUp, table: fn(&mut Check, &Row, &[Row])) -
                 check.findings.rows += rows.len();
                 table(&mut check, &head, &rows);
             }
-            Block::Fence => {}
+            Block::Fence(_) => {}
         }
     }
     check.findings

@@ -15,14 +15,23 @@ pub struct Row<'a> {
     pub cells: Vec<&'a str>,
 }
 
+/// A fenced block.
+pub struct Fence<'a> {
+    /// The number of the line that opens it.
+    pub number: usize,
+    /// The line right before that one.
+    pub before: &'a str,
+    /// The lines between the fences, each with its line end.
+    pub text: String,
+}
+
 /// A part of a document.
 pub enum Block<'a> {
     /// Lines that belong together: a paragraph, an item of a list, a heading.
     Text(Vec<Line<'a>>),
     /// The head of a table, and the rows below its line of dashes.
     Table(Row<'a>, Vec<Row<'a>>),
-    /// A fenced block.
-    Fence,
+    Fence(Fence<'a>),
 }
 
 /// The parts of a document, in order.
@@ -39,7 +48,8 @@ pub fn blocks(document: &str) -> Vec<Block<'_>> {
             at += 1;
         } else if is_fence(text) {
             let end = end_of(&lines, at, |line| !is_fence(line));
-            blocks.push(Block::Fence);
+            let before = if at == 0 { "" } else { lines[at - 1].text };
+            blocks.push(Block::Fence(fence(&lines[at..end], before)));
             at = end + 1;
         } else if is_row(text) {
             let end = end_of(&lines, at, is_row);
@@ -76,6 +86,17 @@ fn goes_on(line: &str) -> bool {
     let numbered = digits.len() < start.len() && digits.starts_with(". ");
     let begins = numbered || start.starts_with("- ") || start.starts_with("* ");
     !(start.is_empty() || line.starts_with('#') || begins || is_fence(line) || is_row(line))
+}
+
+/// The block that these lines hold, the first of which opens it.
+fn fence<'a>(lines: &[Line<'a>], before: &'a str) -> Fence<'a> {
+    let number = lines[0].number;
+    let text = lines[1..].iter().flat_map(|line| [line.text, "\n"]);
+    Fence {
+        number,
+        before,
+        text: text.collect(),
+    }
 }
 
 fn table<'a>(lines: &[Line<'a>]) -> Block<'a> {

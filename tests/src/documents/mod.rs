@@ -1,13 +1,15 @@
 //! What the documents name, held against the repository: that files exist and
-//! define the names that are said to be theirs, and that files have as many
-//! lines as is written.
+//! define the names that are said to be theirs, that files have as many lines
+//! as is written, and that quotes are right.
 
 mod checks;
 mod definitions;
 mod markdown;
 mod mentions;
+mod quotes;
 
 pub use checks::{check_reading, check_trace, Findings};
+pub use quotes::{check_quotes, Quotes};
 
 use std::fs;
 use std::path::{Path, PathBuf};
@@ -17,6 +19,9 @@ pub enum Found {
     File(String),
     Folder,
 }
+
+/// Tells what stands at a path, if anything does.
+pub type LookUp = fn(&str) -> Option<Found>;
 
 /// The repository's top folder.
 pub fn top_folder() -> PathBuf {
