@@ -4,13 +4,12 @@ use leverpeach_tests::cases::{run, Tally};
 use leverpeach_tests::circuits::certificates::{self, Argument};
 use leverpeach_tests::circuits::{calls, damaged, mutants, small, sound, structured, Draft};
 use leverpeach_tests::compare;
+use leverpeach_tests::files::{example, example_names};
 use leverpeach_tests::model::certificate::Subject;
 use leverpeach_tests::model::window::{Line, Step};
 use leverpeach_tests::model::{self, kind, Checked, Fault, Site};
 use leverpeach_tests::native::{self, accepted_number};
 use leverpeach_tests::random::Random;
-use std::fs;
-use std::path::Path;
 use std::time::{Duration, Instant};
 
 fn a_fault(random: &mut Random, draft: &Draft) -> Fault {
@@ -255,14 +254,9 @@ fn planned_and_middling_circuits() {
 
 #[test]
 fn examples_with_swept_certificates() {
-    let directory = Path::new(env!("CARGO_MANIFEST_DIR")).join("../examples");
-    for entry in fs::read_dir(directory).expect("the examples are there") {
-        let path = entry.expect("the entry is there").path();
-        if path.extension().is_none_or(|end| end != "net") {
-            continue;
-        }
-        println!("{}", path.display());
-        let netlist = fs::read(&path).expect("the example is there");
+    for name in example_names() {
+        println!("{name}");
+        let netlist = example(&name);
         let nodes = calls::node_count(&netlist);
         run("example certificates", 30, |_, random| {
             let fault = Fault {

@@ -1,9 +1,8 @@
 //! What `docs/TRACE.md` and `docs/READING.md` name is there, and is what they
 //! say it is.
 
-use leverpeach_tests::documents::{
-    check_reading, check_trace, in_repository, top_folder, Findings, Found,
-};
+use leverpeach_tests::documents::{check_reading, check_trace, in_repository, Findings, Found};
+use leverpeach_tests::files::top_folder;
 use std::fs;
 
 /// A document of the repository.

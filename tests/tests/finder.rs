@@ -5,14 +5,13 @@ use leverpeach_tests::cases::run;
 use leverpeach_tests::circuits::calls::{self, Request};
 use leverpeach_tests::circuits::{damaged, small, sound, structured, worked, Draft};
 use leverpeach_tests::compare;
+use leverpeach_tests::files::example;
 use leverpeach_tests::model::netlist::Netlist;
 use leverpeach_tests::model::report::faults;
 use leverpeach_tests::model::{kind, Fault, Site};
 use leverpeach_tests::native::found_number;
 use leverpeach_tests::random::Random;
 use std::collections::BTreeMap;
-use std::fs;
-use std::path::Path;
 
 /// How often each answer was met: found by its c, refusals by their number.
 #[derive(Debug, Default)]
@@ -353,11 +352,6 @@ fn middling_circuits() {
     met.assert_total(15_000);
 }
 
-fn example(name: &str) -> Vec<u8> {
-    let examples = Path::new(env!("CARGO_MANIFEST_DIR")).join("../examples");
-    fs::read(examples.join(name)).expect("the example is there")
-}
-
 #[test]
 fn every_fault_of_the_small_examples() {
     let mut random = Random::new(5);
@@ -375,12 +369,12 @@ fn every_fault_of_the_small_examples() {
     ];
     // How many faults are found with each of these bounds.
     for (name, found) in [
-        ("and2.net", [2; 10]),
-        ("p1.net", [0, 1, 3, 4, 3, 4, 3, 1, 4, 4]),
-        ("ffself.net", [0, 0, 4, 4, 4, 4, 4, 0, 4, 4]),
-        ("s27.net", [0; 10]),
-        ("mix30.net", [11, 11, 12, 12, 12, 12, 12, 11, 12, 12]),
-        ("random30.net", [43, 43, 54, 60, 88, 96, 88, 43, 96, 96]),
+        ("and2", [2; 10]),
+        ("p1", [0, 1, 3, 4, 3, 4, 3, 1, 4, 4]),
+        ("ffself", [0, 0, 4, 4, 4, 4, 4, 0, 4, 4]),
+        ("s27", [0; 10]),
+        ("mix30", [11, 11, 12, 12, 12, 12, 12, 11, 12, 12]),
+        ("random30", [43, 43, 54, 60, 88, 96, 88, 43, 96, 96]),
     ] {
         let netlist = example(name);
         for ((b, f), found) in bounds.into_iter().zip(found) {
@@ -397,7 +391,7 @@ fn every_fault_of_the_small_examples() {
 #[test]
 fn some_faults_of_the_large_examples() {
     let mut met = Met::default();
-    for name in ["mix100.net", "random100.net", "mix290.net", "random290.net"] {
+    for name in ["mix100", "random100", "mix290", "random290"] {
         let netlist = example(name);
         let faults = every_fault(&netlist);
         println!("{name}");

@@ -1,6 +1,7 @@
 //! The README's quotes of files and of what commands print are right.
 
-use leverpeach_tests::documents::{check_quotes, in_repository, top_folder, Found, Quotes};
+use leverpeach_tests::documents::{check_quotes, in_repository, Found, Quotes};
+use leverpeach_tests::files::top_folder;
 use std::fs;
 
 #[test]

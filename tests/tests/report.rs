@@ -2,23 +2,18 @@
 
 use leverpeach_tests::cases::run;
 use leverpeach_tests::circuits::{damaged, raw, small, structured, worked, Draft};
+use leverpeach_tests::files::{example, top_folder};
 use leverpeach_tests::model::{self, kind};
 use leverpeach_tests::random::Random;
-use std::fs;
 use std::io::{ErrorKind, Write};
-use std::path::{Path, PathBuf};
 use std::process::{Command, Stdio};
 use std::thread;
 use std::time::Duration;
 
-fn repository() -> PathBuf {
-    Path::new(env!("CARGO_MANIFEST_DIR")).join("..")
-}
-
 /// What the program prints when its input comes in these pieces, one after the
 /// other.
 fn printed_for_pieces(pieces: &[&[u8]]) -> String {
-    let path = repository().join("target/bin/report");
+    let path = top_folder().join("target/bin/report");
     assert!(
         path.is_file(),
         "{} is missing: build it with scripts/build report",
@@ -93,16 +88,15 @@ fn pins_come_before_the_node_itself() {
 #[test]
 fn examples() {
     for (name, b, f, last) in [
-        ("and2.net", 0, 0, "2 of 12"),
-        ("p1.net", 1, 0, "3 of 24"),
-        ("ffself.net", 1, 0, "4 of 4"),
-        ("s27.net", 3, 1, "0 of 80"),
-        ("mix30.net", 2, 1, "12 of 140"),
-        ("random30.net", 2, 1, "96 of 166"),
+        ("and2", 0, 0, "2 of 12"),
+        ("p1", 1, 0, "3 of 24"),
+        ("ffself", 1, 0, "4 of 4"),
+        ("s27", 3, 1, "0 of 80"),
+        ("mix30", 2, 1, "12 of 140"),
+        ("random30", 2, 1, "96 of 166"),
     ] {
-        let path = repository().join("examples").join(name);
-        let netlist = fs::read(path).expect("the example is there");
-        assert_eq!(last_line(&compare(&input(b, f, &netlist))), last, "{name}");
+        let text = compare(&input(b, f, &example(name)));
+        assert_eq!(last_line(&text), last, "{name}");
     }
 }
 

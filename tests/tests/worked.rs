@@ -3,10 +3,9 @@
 
 use leverpeach_tests::circuits::Draft;
 use leverpeach_tests::compare;
+use leverpeach_tests::files::example;
 use leverpeach_tests::native::FaultBytes;
 use leverpeach_tests::random::Random;
-use std::fs;
-use std::path::Path;
 
 /// An AND of one input twice, and its output.
 const AND_TWICE: [u8; 25] = [
@@ -93,8 +92,7 @@ fn the_and_of_one_input_twice() {
 #[test]
 fn p1_is_sound_and_is_the_example_file() {
     assert_eq!(compare::read(&P1), 4_294_967_296 + 65_536 * 6 + 6);
-    let file = Path::new(env!("CARGO_MANIFEST_DIR")).join("../examples/p1.net");
-    assert_eq!(fs::read(file).unwrap(), P1);
+    assert_eq!(example("p1"), P1);
 }
 
 #[test]

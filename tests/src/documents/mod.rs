@@ -11,8 +11,8 @@ mod quotes;
 pub use checks::{check_reading, check_trace, Findings};
 pub use quotes::{check_quotes, Quotes};
 
+use crate::files::top_folder;
 use std::fs;
-use std::path::{Path, PathBuf};
 
 /// What stands at a path.
 pub enum Found {
@@ -22,11 +22,6 @@ pub enum Found {
 
 /// Tells what stands at a path, if anything does.
 pub type LookUp = fn(&str) -> Option<Found>;
-
-/// The repository's top folder.
-pub fn top_folder() -> PathBuf {
-    Path::new(env!("CARGO_MANIFEST_DIR")).join("..")
-}
 
 /// What stands at a path from the repository's top.
 pub fn in_repository(path: &str) -> Option<Found> {

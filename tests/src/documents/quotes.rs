@@ -5,7 +5,8 @@
 //! is run there.
 
 use super::markdown::{blocks, Block, Fence};
-use super::{top_folder, Found, LookUp};
+use super::{Found, LookUp};
+use crate::files::top_folder;
 use std::process::Command;
 
 /// What a look at a document found.
