@@ -34,7 +34,7 @@ impl Work {
             let draft = sound::of_size(&mut random, nodes, pins);
             Circuit {
                 netlist: draft.to_bytes(),
-                fault: calls::fault(&mut random, &draft),
+                fault: calls::fault_bytes(&mut random, &draft),
                 first: calls::first(&mut random, &draft),
                 second: vec![0; nodes],
             }

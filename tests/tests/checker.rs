@@ -12,11 +12,6 @@ use leverpeach_tests::native::{self, accepted_number};
 use leverpeach_tests::random::Random;
 use std::time::{Duration, Instant};
 
-fn a_fault(random: &mut Random, draft: &Draft) -> Fault {
-    let fault = calls::fault(random, draft).meaning();
-    fault.expect("these bytes mean a fault")
-}
-
 /// Checks with work slices that are mostly long enough.
 fn check(random: &mut Random, netlist: &[u8], certificate: &[u8]) -> u64 {
     let needed = calls::work_needed(netlist, certificate);
@@ -36,7 +31,7 @@ fn found(random: &mut Random) -> (Vec<u8>, Vec<u8>) {
     loop {
         let draft = small::any(random);
         let netlist = draft.to_bytes();
-        let fault = a_fault(random, &draft);
+        let fault = calls::fault(random, &draft);
         let (b, f) = (random.below(4) as u8, random.below(3) as u8);
         if let Some(certificate) = certificates::found(None, &netlist, fault, b, f) {
             return (netlist, certificate);
@@ -48,7 +43,7 @@ fn found(random: &mut Random) -> (Vec<u8>, Vec<u8>) {
 fn walked(random: &mut Random) -> (Vec<u8>, Vec<u8>) {
     let draft = small::any(random);
     let netlist = draft.to_bytes();
-    let fault = a_fault(random, &draft);
+    let fault = calls::fault(random, &draft);
     let subject = certificates::subject(random, fault, draft.nodes.len(), 5);
     let most = random.pick(&[0, 1, 3, 1_000, 1_000, 1_000]);
     let argument = certificates::walked(random, &netlist, subject, most);
@@ -82,7 +77,7 @@ fn the_order_of_all_steps_that_follow_does_not_matter() {
     run("orders", 4_000, |_, random| {
         let draft = small::any(random);
         let netlist = draft.to_bytes();
-        let fault = a_fault(random, &draft);
+        let fault = calls::fault(random, &draft);
         let subject = certificates::subject(random, fault, draft.nodes.len(), 4);
         let swept = certificates::swept(&netlist, subject).to_bytes();
         let walked = certificates::walked(random, &netlist, subject, usize::MAX).to_bytes();
@@ -129,8 +124,7 @@ fn damage(random: &mut Random, draft: &Draft, argument: &Argument, numbers: &[u6
             random.pick(&[(15, 0), (0, 15), (14, 1), (255, 0), (255, 255), (128, 128)]);
     }
     if numbers.contains(&9) {
-        let fault = calls::foreign_fault(random, draft).meaning();
-        argument.subject.fault = fault.expect("these bytes mean a fault");
+        argument.subject.fault = calls::foreign_fault(random, draft);
     }
     let mut bytes = argument.to_bytes();
     if numbers.contains(&8) {
@@ -155,7 +149,7 @@ fn step_of_no_node(draft: &Draft) -> Step {
 /// An argument whose branches close, or one of whose branches does not.
 fn argument(random: &mut Random, draft: &Draft, closing: bool) -> Option<Argument> {
     let netlist = draft.to_bytes();
-    let fault = a_fault(random, draft);
+    let fault = calls::fault(random, draft);
     if closing {
         let (b, f) = (random.below(3) as u8, random.below(3) as u8);
         let certificate = certificates::found(None, &netlist, fault, b, f)?;
@@ -243,7 +237,7 @@ fn planned_and_middling_circuits() {
         let draft = &drafts[case as usize % drafts.len()];
         let netlist = draft.to_bytes();
         for _ in 0..50 {
-            let fault = a_fault(random, draft);
+            let fault = calls::fault(random, draft);
             let subject = certificates::subject(random, fault, draft.nodes.len(), 15);
             let certificate = certificates::swept(&netlist, subject).to_bytes();
             tally.count(check_in_just_enough(random, &netlist, &certificate));

@@ -28,11 +28,10 @@ struct Subject {
 impl Subject {
     fn new(random: &mut Random) -> Self {
         let draft = small::any(random);
-        let fault = calls::fault(random, &draft).meaning();
         Subject {
             netlist: draft.to_bytes(),
             nodes: draft.nodes.len(),
-            fault: fault.expect("these bytes mean a fault"),
+            fault: calls::fault(random, &draft),
         }
     }
 

@@ -81,16 +81,6 @@ fn find_in_just_enough(random: &mut Random, netlist: &[u8], request: Request) ->
     compare::find(random, netlist, request, slices).0
 }
 
-fn a_fault(random: &mut Random, draft: &Draft) -> Fault {
-    let fault = calls::fault(random, draft).meaning();
-    fault.expect("these bytes mean a fault")
-}
-
-fn a_foreign_fault(random: &mut Random, draft: &Draft) -> Fault {
-    let fault = calls::foreign_fault(random, draft).meaning();
-    fault.expect("these bytes mean a fault")
-}
-
 fn every_fault(netlist: &[u8]) -> Vec<Fault> {
     let netlist = Netlist::sound(netlist).expect("the netlist is sound");
     faults(&netlist).collect()
@@ -102,8 +92,8 @@ fn small_circuits() {
     run("small", 550_000, |_, random| {
         let draft = small::any(random);
         let fault = match random.below(100) {
-            0 => a_foreign_fault(random, &draft),
-            _ => a_fault(random, &draft),
+            0 => calls::foreign_fault(random, &draft),
+            _ => calls::fault(random, &draft),
         };
         let (b, f) = calls::bounds(random);
         let request = Request { fault, b, f };
@@ -154,7 +144,7 @@ fn wide_windows_of_planned_circuits() {
         let nodes = random.between(30, 60) as u16;
         let drafts = planned(nodes);
         let draft = &drafts[random.below(drafts.len())];
-        let fault = a_fault(random, draft);
+        let fault = calls::fault(random, draft);
         let (b, f) = random.pick(&[(2, 2), (4, 3), (5, 5), (7, 7), (14, 0), (0, 14), (3, 9)]);
         let request = Request { fault, b, f };
         met.count(find_in_just_enough(random, &draft.to_bytes(), request));
@@ -192,7 +182,7 @@ fn every_b_and_f_of_a_window_that_is_not_too_wide() {
     met.assert_found_and_none(500, 500);
     run("windows of small circuits", 380, |_, random| {
         let draft = small::any(random);
-        let fault = a_fault(random, &draft);
+        let fault = calls::fault(random, &draft);
         find_in_every_window(random, &draft.to_bytes(), fault, &mut met);
     });
     met.assert_found_and_none(5_000, 5_000);
@@ -207,7 +197,7 @@ fn windows_that_are_too_wide() {
         let draft = small::any(random);
         let large = wide[case as usize % wide.len()];
         for small in 15 - large.min(15)..=16 {
-            let fault = a_fault(random, &draft);
+            let fault = calls::fault(random, &draft);
             for (b, f) in [(large, small), (small, large)] {
                 let request = Request { fault, b, f };
                 let answer = find_in_just_enough(random, &draft.to_bytes(), request);
@@ -273,8 +263,8 @@ fn the_smallest_c_is_answered() {
 /// for each of 9 to 12.
 fn damaged_call(random: &mut Random, draft: &Draft, numbers: &[u64]) -> (Request, [Vec<u8>; 3]) {
     let fault = match numbers.contains(&9) {
-        true => a_foreign_fault(random, draft),
-        false => a_fault(random, draft),
+        true => calls::foreign_fault(random, draft),
+        false => calls::fault(random, draft),
     };
     let (b, f) = match numbers.contains(&10) {
         true => random.pick(&[(15, 0), (0, 15), (14, 1), (255, 0), (255, 255), (128, 128)]),
@@ -342,7 +332,7 @@ fn middling_circuits() {
     run("middling", 15_000, |_, random| {
         let nodes = random.between(13, 40);
         let draft = sound::random(random, nodes);
-        let fault = a_fault(random, &draft);
+        let fault = calls::fault(random, &draft);
         let (b, f) = (random.below(4) as u8, random.below(3) as u8);
         let request = Request { fault, b, f };
         met.count(find(random, &draft.to_bytes(), request));

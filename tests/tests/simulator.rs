@@ -23,7 +23,7 @@ fn sound_circuits_with_and_without_faults() {
         let draft = sound::random(random, 1 + (case % 50) as usize);
         let fault = match random.below(4) {
             0 => calls::no_fault(random),
-            _ => calls::fault(random, &draft),
+            _ => calls::fault_bytes(random, &draft),
         };
         step(random, &draft, fault);
     });
@@ -34,13 +34,13 @@ fn calls_that_are_turned_back() {
     let mut tally = Tally::default();
     run("turned back", 40_000, |case, random| {
         let draft = sound::random(random, 1 + (case % 30) as usize);
-        let mut fault = calls::fault(random, &draft);
+        let mut fault = calls::fault_bytes(random, &draft);
         let mut first = calls::first(random, &draft);
         let mut second = random.bytes(first.len());
         // Bit by bit: a foreign fault, a spoiled place, a wrong length each.
         let wrong = case / 30 % 16;
         if wrong & 1 != 0 {
-            fault = calls::foreign_fault(random, &draft);
+            fault = calls::foreign_fault_bytes(random, &draft);
         }
         if wrong & 2 != 0 {
             calls::spoil(random, &draft, &mut first);
@@ -156,7 +156,7 @@ fn every_fault_that_can_be_written_near_a_circuit() {
 fn the_largest_circuits() {
     run("largest", 400, |_, random| {
         let draft = sound::of_size(random, 4_096, 16_384);
-        let fault = calls::fault(random, &draft);
+        let fault = calls::fault_bytes(random, &draft);
         step(random, &draft, fault);
     });
 }
@@ -166,7 +166,7 @@ fn planned_circuits_of_all_sizes() {
     run("planned", 20, |_, random| {
         for nodes in [2, 3, 17, 255, 256, 257, 4_095, 4_096] {
             for draft in structured::all(nodes) {
-                let fault = calls::fault(random, &draft);
+                let fault = calls::fault_bytes(random, &draft);
                 step(random, &draft, fault);
                 let fault = calls::no_fault(random);
                 step(random, &draft, fault);

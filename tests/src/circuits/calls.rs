@@ -8,7 +8,19 @@ use crate::native::FaultBytes;
 use crate::random::Random;
 
 /// A fault that the netlist has.
-pub fn fault(random: &mut Random, draft: &Draft) -> FaultBytes {
+pub fn fault(random: &mut Random, draft: &Draft) -> Fault {
+    let bytes = fault_bytes(random, draft);
+    bytes.meaning().expect("these bytes mean a fault")
+}
+
+/// A fault that the netlist does not have, or whose u is no value.
+pub fn foreign_fault(random: &mut Random, draft: &Draft) -> Fault {
+    let bytes = foreign_fault_bytes(random, draft);
+    bytes.meaning().expect("these bytes mean a fault")
+}
+
+/// A fault that the netlist has, for the simulator.
+pub fn fault_bytes(random: &mut Random, draft: &Draft) -> FaultBytes {
     let node = random.below(draft.nodes.len());
     let pins = draft.nodes[node].sources.len();
     let site = match random.below(pins + 1) {
@@ -25,7 +37,7 @@ pub fn fault(random: &mut Random, draft: &Draft) -> FaultBytes {
     }
 }
 
-/// No fault, beside bytes that must not matter then.
+/// No fault, for the simulator, beside bytes that must not matter then.
 pub fn no_fault(random: &mut Random) -> FaultBytes {
     FaultBytes {
         faulted: 0,
@@ -35,9 +47,10 @@ pub fn no_fault(random: &mut Random) -> FaultBytes {
     }
 }
 
-/// A fault that the netlist does not have, or whose u is no value.
-pub fn foreign_fault(random: &mut Random, draft: &Draft) -> FaultBytes {
-    let mut fault = fault(random, draft);
+/// A fault that the netlist does not have, or whose u is no value, for the
+/// simulator.
+pub fn foreign_fault_bytes(random: &mut Random, draft: &Draft) -> FaultBytes {
+    let mut fault = fault_bytes(random, draft);
     let nodes = draft.nodes.len() as u16;
     let pins = draft.nodes[usize::from(fault.node)].sources.len() as u8;
     match random.below(3) {
