@@ -7,7 +7,7 @@ use leverpeach_tests::compare;
 use leverpeach_tests::files::{example, example_names};
 use leverpeach_tests::model::certificate::Subject;
 use leverpeach_tests::model::window::{Line, Step};
-use leverpeach_tests::model::{self, kind, Checked, Fault, Site};
+use leverpeach_tests::model::{self, Checked, Fault, Site};
 use leverpeach_tests::native::{self, accepted_number};
 use leverpeach_tests::random::Random;
 use std::time::{Duration, Instant};
@@ -311,14 +311,8 @@ fn a_hundred_thousand_repeated_steps() {
 
 #[test]
 fn one_of_the_longest_certificates() {
-    // A flip-flop fed by itself, an AND of it twice, a chain and an output:
-    // each line but the split is a step, in both branches.
-    let mut draft = Draft::of(&[(kind::FLIP_FLOP, &[0]), (kind::AND, &[0, 0])]);
-    for node in 2..4_095 {
-        draft.push(kind::NOT, &[node - 1]);
-    }
-    draft.push(kind::OUTPUT, &[4_094]);
-    let netlist = draft.to_bytes();
+    // Each line but the split is a step, in both branches.
+    let netlist = structured::settled_chain(4_096).to_bytes();
     let (node, site, u) = (1, Site::Pin(0), 1);
     let subject = Subject {
         fault: Fault { node, site, u },

@@ -210,7 +210,7 @@ fn windows_that_are_too_wide() {
 /// Equal shift registers of this depth from one input, a gate of their ends,
 /// and its output.
 fn equal_registers(registers: u16, depth: u16, kind: u8) -> Draft {
-    let mut draft = Draft::of(&[(kind::INPUT, &[])]);
+    let mut draft = Draft::inputs(1);
     for register in 0..registers {
         draft.push(kind::FLIP_FLOP, &[0]);
         for stage in 1..depth {
@@ -399,14 +399,8 @@ fn some_faults_of_the_large_examples() {
 
 #[test]
 fn the_longest_certificates() {
-    // A flip-flop fed by itself, an AND of it twice, a chain and an output:
-    // each line but the split is a step, in both branches.
-    let mut draft = Draft::of(&[(kind::FLIP_FLOP, &[0]), (kind::AND, &[0, 0])]);
-    for node in 2..4_095 {
-        draft.push(kind::NOT, &[node - 1]);
-    }
-    draft.push(kind::OUTPUT, &[4_094]);
-    let netlist = draft.to_bytes();
+    // Each line but the split is a step, in both branches.
+    let netlist = structured::settled_chain(4_096).to_bytes();
     let (node, site, u) = (1, Site::Pin(0), 1);
     let fault = Fault { node, site, u };
     run("longest", 15, |case, random| {
@@ -429,10 +423,7 @@ fn splits_at_nodes_above_255() {
         // Inputs, an AND of the last one twice, and its output: only that input
         // and what hangs on it tell of the AND's pin.
         let inputs: u16 = counts[case as usize];
-        let mut draft = Draft::default();
-        for _ in 0..inputs {
-            draft.push(kind::INPUT, &[]);
-        }
+        let mut draft = Draft::inputs(inputs.into());
         draft.push(kind::AND, &[inputs - 1, inputs - 1]);
         draft.push(kind::OUTPUT, &[inputs]);
         let (node, site, u) = (inputs, Site::Pin(1), 1);

@@ -156,17 +156,10 @@ fn windows_that_are_too_wide() {
     }
 }
 
-/// Inputs alone: every fault is found at the first split.
-fn inputs(nodes: usize) -> Vec<u8> {
-    let mut draft = Draft::default();
-    for _ in 0..nodes {
-        draft.push(kind::INPUT, &[]);
-    }
-    draft.to_bytes()
-}
-
 #[test]
 fn the_certificate_s_buffer_limits_nodes_and_frames() {
+    // Of inputs alone every fault is found at the first split.
+    let inputs = |nodes| Draft::inputs(nodes).to_bytes();
     // Nodes times frames is 4,680, just too many.
     for (b, f, nodes) in [(1, 0, 2_340), (0, 1, 2_340), (0, 2, 1_560), (14, 0, 312)] {
         assert_eq!(compare(&input(b, f, &inputs(nodes))), "refused 12\n");
@@ -185,10 +178,7 @@ fn the_certificate_s_buffer_limits_nodes_and_frames() {
 #[test]
 fn more_faults_than_four_digits_count() {
     // Without an output every fault is found at once.
-    let mut draft = Draft::default();
-    for _ in 0..3_000 {
-        draft.push(kind::INPUT, &[]);
-    }
+    let mut draft = Draft::inputs(3_000);
     for _ in 0..1_001 {
         draft.push(kind::BUFFER, &[1]);
     }
@@ -220,10 +210,7 @@ fn input_longer_than_the_buffer() {
 
 /// As many nodes and pins as a netlist may have.
 fn longest_netlist() -> Vec<u8> {
-    let mut draft = Draft::default();
-    for _ in 0..2_048 {
-        draft.push(kind::INPUT, &[]);
-    }
+    let mut draft = Draft::inputs(2_048);
     for _ in 0..2_048 {
         draft.push(kind::NOR, &[0; 8]);
     }

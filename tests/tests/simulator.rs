@@ -103,7 +103,7 @@ fn netlists_past_every_limit() {
         let slice = vec![1; nodes];
         compare::simulate(&mut random, netlist, FaultBytes::NONE, &slice, &slice).0
     };
-    let inputs = |count| Draft::of(&vec![(INPUT, &[][..]); count]).to_bytes();
+    let inputs = |count| Draft::inputs(count).to_bytes();
     assert_eq!(answer(&inputs(4_096), 4_096), 0);
     assert_eq!(answer(&inputs(4_097), 4_097), 2);
     assert_eq!(answer(&inputs(0), 0), 2);
@@ -216,10 +216,7 @@ fn a_counter_counts() {
 #[test]
 fn wide_gates_under_every_input() {
     for pins in 2..=8_u16 {
-        let mut draft = Draft::default();
-        for _ in 0..pins {
-            draft.push(INPUT, &[]);
-        }
+        let mut draft = Draft::inputs(pins.into());
         let sources: Vec<u16> = (0..pins).collect();
         for kind in AND..=NOR {
             draft.push(kind, &sources);
