@@ -15,7 +15,7 @@ use std::time::{Duration, Instant};
 /// Checks with work slices that are mostly long enough.
 fn check(random: &mut Random, netlist: &[u8], certificate: &[u8]) -> u64 {
     let needed = calls::work_needed(netlist, certificate);
-    let [first, second] = calls::work_slices(random, needed);
+    let [first, second] = calls::slices(random, [needed, needed]);
     compare::check(random, netlist, certificate, &first, &second)
 }
 

@@ -68,17 +68,15 @@ impl Met {
 /// Finds in slices that are mostly long enough.
 fn find(random: &mut Random, netlist: &[u8], request: Request) -> u64 {
     let needed = request.slice_lengths(calls::node_count(netlist));
-    let slices = calls::finder_slices(random, needed);
-    let slices = slices.each_ref().map(Vec::as_slice);
-    compare::find(random, netlist, request, slices).0
+    let slices = calls::slices(random, needed);
+    compare::find(random, netlist, request, &slices).0
 }
 
 /// Finds in slices that are just long enough.
 fn find_in_just_enough(random: &mut Random, netlist: &[u8], request: Request) -> u64 {
     let needed = request.slice_lengths(calls::node_count(netlist));
     let slices = needed.map(|length| random.bytes(length));
-    let slices = slices.each_ref().map(Vec::as_slice);
-    compare::find(random, netlist, request, slices).0
+    compare::find(random, netlist, request, &slices).0
 }
 
 fn every_fault(netlist: &[u8]) -> Vec<Fault> {
@@ -291,8 +289,7 @@ fn the_smallest_of_several_damages_is_the_refusal() {
         let numbers: Vec<u64> = numbers.map(|bit| 9 + bit).collect();
         let draft = small::any(random);
         let (request, slices) = damaged_call(random, &draft, &numbers);
-        let slices = slices.each_ref().map(Vec::as_slice);
-        let (answer, _) = compare::find(random, &draft.to_bytes(), request, slices);
+        let (answer, _) = compare::find(random, &draft.to_bytes(), request, &slices);
         match numbers.first() {
             Some(smallest) => assert_eq!(answer, *smallest, "of {numbers:?}"),
             None => assert!(answer == 0 || answer > 16),
@@ -320,8 +317,7 @@ fn netlists_that_are_not_sound() {
             let length = random.pick(&[0, 1, 25, 2_000]);
             random.bytes(length)
         });
-        let slices = slices.each_ref().map(Vec::as_slice);
-        let (answer, _) = compare::find(random, &netlist, Request { fault, b, f }, slices);
+        let (answer, _) = compare::find(random, &netlist, Request { fault, b, f }, &slices);
         assert_eq!(answer, number);
     });
 }
@@ -434,8 +430,7 @@ fn splits_at_nodes_above_255() {
         };
         let needed = request.slice_lengths(draft.nodes.len());
         let slices = needed.map(|length| random.bytes(length));
-        let slices = slices.each_ref().map(Vec::as_slice);
-        let (answer, certificate) = compare::find(random, &draft.to_bytes(), request, slices);
+        let (answer, certificate) = compare::find(random, &draft.to_bytes(), request, &slices);
         // In both branches the AND and the output follow.
         assert_eq!(answer, found_number(0, 25 + 4 * 7));
         let ([low, high], split) = (inputs.to_le_bytes(), (inputs - 1).to_le_bytes());

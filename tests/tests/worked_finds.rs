@@ -35,8 +35,7 @@ fn find_in(
         f: bounds[1],
     };
     let slices = lengths.map(|length| vec![170; length]);
-    let slices = slices.each_ref().map(Vec::as_slice);
-    compare::find(&mut Random::new(2), netlist, request, slices)
+    compare::find(&mut Random::new(2), netlist, request, &slices)
 }
 
 fn find(netlist: &[u8], fault: [u16; 3], bounds: [u8; 2]) -> (u64, Vec<u8>) {

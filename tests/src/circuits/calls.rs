@@ -6,6 +6,7 @@ use crate::model::certificate::{HEAD, STEP};
 use crate::model::{kind, Fault};
 use crate::native::FaultBytes;
 use crate::random::Random;
+use std::array;
 
 /// A fault that the netlist has.
 pub fn fault(random: &mut Random, draft: &Draft) -> Fault {
@@ -110,14 +111,15 @@ pub fn work_needed(netlist: &[u8], certificate: &[u8]) -> usize {
     node_count(netlist) * frames.min(15)
 }
 
-/// Two work slices with anything in them: mostly long enough, sometimes one of
-/// them a byte too short or empty.
-pub fn work_slices(random: &mut Random, needed: usize) -> [Vec<u8>; 2] {
-    let short = random.below(40);
-    [0, 1].map(|slice| {
+/// Slices with anything in them, for these lengths: mostly long enough, rarely
+/// one of them a byte too short or shorter still.
+pub fn slices<const COUNT: usize>(random: &mut Random, needed: [usize; COUNT]) -> [Vec<u8>; COUNT] {
+    let short = random.below(30 * COUNT);
+    array::from_fn(|slice| {
+        let needed = needed[slice];
         let length = match random.below(4) {
             _ if short == slice => needed - 1,
-            _ if short == slice + 2 => random.below(needed),
+            _ if short == slice + COUNT => random.below(needed),
             0 | 1 => needed,
             2 => needed + 1,
             _ => needed + random.below(50),
@@ -157,21 +159,4 @@ pub fn bounds(random: &mut Random) -> (u8, u8) {
         2..=40 => (random.below(6) as u8, random.below(4) as u8),
         _ => (random.below(3) as u8, random.below(3) as u8),
     }
-}
-
-/// The finder's slices with anything in them, for these lengths: mostly long
-/// enough, rarely one of them a byte too short or empty.
-pub fn finder_slices(random: &mut Random, needed: [usize; 3]) -> [Vec<u8>; 3] {
-    let short = random.below(90);
-    [0, 1, 2].map(|slice| {
-        let needed = needed[slice];
-        let length = match random.below(4) {
-            _ if short == slice => needed - 1,
-            _ if short == slice + 3 => random.below(needed),
-            0 | 1 => needed,
-            2 => needed + 1,
-            _ => needed + random.below(50),
-        };
-        random.bytes(length)
-    })
 }
