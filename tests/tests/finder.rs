@@ -164,15 +164,15 @@ fn find_in_every_window(random: &mut Random, netlist: &[u8], fault: Fault, met: 
 
 #[test]
 fn every_b_and_f_of_a_window_that_is_not_too_wide() {
-    let worked = [
-        worked::INPUT.to_vec(),
-        worked::SELF_FED.to_vec(),
-        worked::and_twice(),
-        worked::p1(),
+    let worked: [&[u8]; 4] = [
+        &worked::INPUT,
+        &worked::SELF_FED,
+        &worked::AND_TWICE,
+        &worked::P1,
     ];
     let mut met = Met::default();
     run("windows", worked.len() as u64, |case, random| {
-        let netlist = &worked[case as usize];
+        let netlist = worked[case as usize];
         for fault in every_fault(netlist) {
             find_in_every_window(random, netlist, fault, &mut met);
         }

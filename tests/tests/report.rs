@@ -147,7 +147,7 @@ fn netlists_that_are_not_sound() {
 
 #[test]
 fn windows_that_are_too_wide() {
-    let netlist = worked::and_twice();
+    let netlist = worked::AND_TWICE;
     for (b, f) in [(14, 1), (15, 0), (0, 15), (255, 0), (0, 255), (255, 255)] {
         assert_eq!(compare(&input(b, f, &netlist)), "refused 10\n");
     }
@@ -189,7 +189,7 @@ fn more_faults_than_four_digits_count() {
 #[test]
 fn input_longer_than_the_buffer() {
     let mut random = Random::new(8);
-    let netlist = worked::and_twice();
+    let netlist = worked::AND_TWICE;
     for length in [65_535, 65_536, 65_537, 200_000] {
         let mut sound_at_first = input(0, 0, &netlist);
         let more = length - sound_at_first.len();
@@ -219,7 +219,7 @@ fn longest_netlist() -> Vec<u8> {
 
 #[test]
 fn input_that_comes_in_pieces() {
-    let netlist = worked::and_twice();
+    let netlist = worked::AND_TWICE;
     let whole = input(0, 0, &netlist);
     let expected = model::report(&whole);
     for cut in [1, 2, 3, 4, 20, whole.len() - 1] {
