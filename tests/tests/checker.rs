@@ -248,11 +248,12 @@ fn planned_and_middling_circuits() {
 
 #[test]
 fn examples_with_swept_certificates() {
+    let mut tally = Tally::default();
     for name in example_names() {
         println!("{name}");
         let netlist = example(&name);
         let nodes = calls::node_count(&netlist);
-        run("example certificates", 30, |_, random| {
+        run("example certificates", 300, |_, random| {
             let fault = Fault {
                 node: random.below(nodes) as u16,
                 site: Site::Whole,
@@ -262,8 +263,10 @@ fn examples_with_swept_certificates() {
             let certificate = certificates::swept(&netlist, subject).to_bytes();
             let answer = check_in_just_enough(random, &netlist, &certificate);
             assert!(answer == 15 || answer == accepted_number(subject.c));
+            tally.count(answer);
         });
     }
+    tally.assert_met(&[0, 15], 100);
 }
 
 /// More than a linear walk over the longest certificates takes, and far less

@@ -83,8 +83,8 @@ pub fn spoil(random: &mut Random, draft: &Draft, first: &mut [u8]) {
     }
 }
 
-/// A slice that is not of its right length: a byte too long or too short,
-/// empty, or of any other small length.
+/// Gives a slice a wrong length: a byte too short or too long, none at all, or
+/// much too long.
 pub fn resize(random: &mut Random, slice: &mut Vec<u8>) {
     let right = slice.len();
     let wrong = match random.below(4) {

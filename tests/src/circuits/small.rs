@@ -18,7 +18,7 @@ pub fn any(random: &mut Random) -> Draft {
     }
 }
 
-/// Two to twelve nodes of any kinds; the last ones are outputs, rarely none.
+/// One to twelve nodes of any kinds; the last ones are outputs, rarely none.
 pub fn mixed(random: &mut Random) -> Draft {
     let inner = random.between(1, 9);
     let kinds = inner_kinds(random, inner);

@@ -102,7 +102,7 @@ fn fence<'a>(lines: &[Line<'a>], before: &'a str) -> Fence<'a> {
 fn table<'a>(lines: &[Line<'a>]) -> Block<'a> {
     let mut rows = lines.iter().map(|line| row(*line));
     let head = rows.next().expect("a table has a line");
-    Block::Table(head, rows.filter(|row| !is_rule(row)).collect())
+    Block::Table(head, rows.skip_while(is_rule).collect())
 }
 
 /// Whether a row is the line of dashes below a table's head.

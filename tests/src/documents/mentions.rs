@@ -31,7 +31,7 @@ fn is_path(code: &str) -> bool {
     file && !code.contains(' ')
 }
 
-/// Reads the lines of one passage after another.
+/// A passage that is read line by line: a paragraph, or a cell of a table.
 #[derive(Default)]
 pub struct Passage<'a> {
     /// The file of which names may follow.
