@@ -23,11 +23,11 @@ struct Circuit {
 
 /// Circuits of one size, the same ones each time they are made.
 #[derive(PartialEq)]
-pub struct Work {
+pub struct Circuits {
     circuits: Vec<Circuit>,
 }
 
-impl Work {
+impl Circuits {
     pub fn new(nodes: usize, pins: usize) -> Self {
         let mut random = Random::new(nodes as u64);
         let circuits = (0..NODES_IN_ALL / nodes).map(|_| {
@@ -39,7 +39,7 @@ impl Work {
                 second: vec![0; nodes],
             }
         });
-        Work {
+        Circuits {
             circuits: circuits.collect(),
         }
     }
