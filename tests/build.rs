@@ -11,7 +11,7 @@ fn main() {
     println!("cargo:rerun-if-changed={}", archive.display());
     assert!(
         archive.is_file(),
-        "{} is missing: build it with scripts/build-library capi",
+        "{} is missing: build it with rt staticlib capi",
         archive.display()
     );
     println!("cargo:rustc-link-search=native={}", directory.display());

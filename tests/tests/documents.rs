@@ -250,9 +250,14 @@ fn reading_with(paragraph: &str, row: &str) -> Findings {
 #[test]
 fn a_right_reading_has_no_complaints() {
     let paragraph = "Then `specs/Laws.antt`: `Net`,\n`size`.\n- `make run`.";
-    let findings = reading_with(paragraph, "`notes.txt` | 2");
-    assert_clean("the sample", &findings);
-    assert_eq!((findings.names, findings.counts), (2, 1));
+    for (row, names) in [
+        ("`notes.txt` | 2", 2),
+        ("`specs/Laws.antt`: `Net`, `size` | 22", 4),
+    ] {
+        let findings = reading_with(paragraph, row);
+        assert_clean("the sample", &findings);
+        assert_eq!((findings.names, findings.counts), (names, 1));
+    }
 }
 
 #[test]
@@ -280,7 +285,11 @@ fn a_wrong_line_count_is_complained_of() {
         ("`notes.txt` | two", "`notes.txt` has 2 lines, not two"),
         ("`lost.txt` | 2", "there is no `lost.txt`"),
         ("`specs/` | 2", "`specs/` is no file"),
-        ("together | 2", "together is not a file's path"),
+        ("together | 2", "together does not name one file"),
+        (
+            "`notes.txt`, `kit.h` | 2",
+            "`notes.txt`, `kit.h` does not name one file",
+        ),
     ] {
         let findings = reading_with("Fine.", row);
         assert_eq!(findings.complaints, [format!("line 12: {complaint}")]);

@@ -141,7 +141,7 @@ impl Check {
     }
 
     fn reading_table(&mut self, head: &Row, rows: &[Row]) {
-        let counted = head.cells.starts_with(&["File", "Lines"]);
+        let counted = head.cells.get(1) == Some(&"Lines");
         for row in rows {
             for text in &row.cells {
                 let number = row.number;
@@ -153,15 +153,17 @@ impl Check {
         }
     }
 
-    /// A row that begins with a file and its line count.
+    /// A row that begins with a file, of which it may list names, and the file's
+    /// line count.
     fn line_count(&mut self, row: &Row) {
         self.findings.counts += 1;
         let [file, written, ..] = row.cells[..] else {
             return self.complain(row.number, "no line count".to_string());
         };
-        let mentioned = mentions_of_cell(file);
-        let [Mention::Path(path)] = mentioned[..] else {
-            return self.complain(row.number, format!("{file} is not a file's path"));
+        let mut mentions = mentions_of_cell(file);
+        mentions.retain(|mention| matches!(mention, Mention::Path(_)));
+        let [Mention::Path(path)] = mentions[..] else {
+            return self.complain(row.number, format!("{file} does not name one file"));
         };
         let lines = match (self.look_up)(path) {
             Some(Found::File(text)) => text.matches('\n').count(),

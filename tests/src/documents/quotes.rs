@@ -90,6 +90,8 @@ impl Quotes {
 fn output(command: &str) -> Result<String, String> {
     let mut shell = Command::new("sh");
     shell.args(["-c", command]).current_dir(top_folder());
+    // A make that knows that it runs below another one says so.
+    shell.env_remove("MAKELEVEL").env_remove("MAKEFLAGS");
     let ran = shell.output().expect("there is a shell");
     if ran.stdout.is_empty() {
         let why = String::from_utf8_lossy(&ran.stderr);
