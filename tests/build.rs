@@ -11,7 +11,7 @@ fn main() {
     println!("cargo:rerun-if-changed={}", archive.display());
     assert!(
         archive.is_file(),
-        "{} is missing: build the kit's C interface first",
+        "{} is missing: build it with rt staticlib capi",
         archive.display()
     );
     println!("cargo:rustc-link-search=native={}", directory.display());

@@ -1,8 +1,8 @@
 //! Calls of the reader, the simulator and the checker on random circuits.
 
 use crate::checks::Checks;
+use crate::circuits::Circuits;
 use crate::measure::{compare, Pair};
-use crate::work::Work;
 
 /// How many times the model's time the library may take for a call.
 pub const LIMIT: f64 = 2.0;
@@ -45,7 +45,7 @@ pub fn measure() -> Vec<Row> {
 
 /// Times the reader and the simulator on circuits of one size.
 fn measure_size((nodes, pins): (usize, usize)) -> [Row; 2] {
-    let (mut model, mut library) = (Work::new(nodes, pins), Work::new(nodes, pins));
+    let (mut model, mut library) = (Circuits::new(nodes, pins), Circuits::new(nodes, pins));
     let circuits = model.circuit_count();
     let read = compare(
         || library.read_with_library(),

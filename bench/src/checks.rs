@@ -7,6 +7,7 @@ use leverpeach_tests::model::window::Line;
 use leverpeach_tests::model::{self, kind, Checked, Fault, Site};
 use leverpeach_tests::native;
 use leverpeach_tests::random::Random;
+use std::fmt::Debug;
 use std::hint::black_box;
 
 /// Steps of all certificates of one size together, the same for each size.
@@ -70,28 +71,23 @@ impl Checks {
     }
 
     pub fn check_with_library(&mut self) {
-        for check in &mut self.checks {
-            let Check {
-                netlist,
-                certificate,
-                first,
-                second,
-            } = check;
-            let answer = native::check(black_box(netlist), black_box(certificate), first, second);
-            assert_eq!(answer, native::accepted_number(C));
-        }
+        self.check_with(native::check, native::accepted_number(C));
     }
 
     pub fn check_with_model(&mut self) {
-        for check in &mut self.checks {
-            let Check {
-                netlist,
-                certificate,
-                first,
-                second,
-            } = check;
-            let checked = model::check(black_box(netlist), black_box(certificate), first, second);
-            assert_eq!(checked, Checked::Accepted(C));
+        self.check_with(model::check, Checked::Accepted(C));
+    }
+
+    /// Checks every certificate once; each gets this answer.
+    fn check_with<A: Debug + PartialEq>(
+        &mut self,
+        check: impl Fn(&[u8], &[u8], &mut [u8], &mut [u8]) -> A,
+        accepted: A,
+    ) {
+        for work in &mut self.checks {
+            let (netlist, certificate) = (black_box(&work.netlist), black_box(&work.certificate));
+            let answer = check(netlist, certificate, &mut work.first, &mut work.second);
+            assert_eq!(answer, accepted);
         }
     }
 }

@@ -2,9 +2,9 @@
 
 use crate::reports::Timed;
 use crate::tables::{self, model_seconds, three_digits};
+use leverpeach_tests::files::top_folder;
 use std::fmt::Write;
 use std::fs;
-use std::path::Path;
 
 /// The frames of the reports that are put side by side by their nodes.
 const FRAMES: usize = 4;
@@ -68,7 +68,7 @@ fn over_frames<'a>(reports: &'a [Timed], circuit: &'a str) -> impl Iterator<Item
 /// Writes what bench/plot.gp draws: blocks of a place on the axis and the times
 /// of library and model.
 pub fn write(reports: &[Timed]) {
-    let path = Path::new(env!("CARGO_MANIFEST_DIR")).join("../target/performance.dat");
+    let path = top_folder().join("target/performance.dat");
     let nodes = over_nodes(reports).map(|report| (report.nodes, report));
     let frames = over_frames(reports, DRAWN).map(|report| (report.frames(), report));
     let text = block("nodes", nodes) + "\n\n" + &block("frames", frames);

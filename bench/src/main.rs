@@ -4,11 +4,11 @@
 
 mod calls;
 mod checks;
+mod circuits;
 mod growth;
 mod measure;
 mod reports;
 mod tables;
-mod work;
 
 use reports::{Case, Timed};
 use std::process::ExitCode;

@@ -2,13 +2,12 @@
 
 use crate::measure::{seconds_of, seconds_per_run};
 use leverpeach_tests::circuits::calls::{self, Request};
+use leverpeach_tests::files;
 use leverpeach_tests::model::finder::Lent;
 use leverpeach_tests::model::netlist::Netlist;
 use leverpeach_tests::model::{self, report, Fault};
 use leverpeach_tests::native;
-use std::fs;
 use std::hint::black_box;
-use std::path::Path;
 
 /// What the slices hold before a call.
 const ANYTHING: u8 = 170;
@@ -72,9 +71,7 @@ struct Report {
 
 impl Report {
     fn new(case: &Case) -> Self {
-        let examples = Path::new(env!("CARGO_MANIFEST_DIR")).join("../examples");
-        let path = examples.join(case.circuit).with_extension("net");
-        let netlist = fs::read(path).expect("the example is there");
+        let netlist = files::example(case.circuit);
         let circuit = Netlist::sound(&netlist).expect("the example is sound");
         let faults: Vec<Fault> = report::faults(&circuit).collect();
         let (fault, b, f) = (faults[0], case.b, case.f);

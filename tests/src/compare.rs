@@ -135,10 +135,10 @@ pub fn find(
     random: &mut Random,
     netlist: &[u8],
     request: Request,
-    slices: [&[u8]; 3],
+    slices: &[Vec<u8>; 3],
 ) -> (u64, Vec<u8>) {
     let given = Guarded::new(random, netlist);
-    let lent = slices.map(|bytes| Guarded::new(random, bytes));
+    let lent = slices.each_ref().map(|bytes| Guarded::new(random, bytes));
     let (read, mut after) = (given.clone(), lent.clone());
     let Request { fault, b, f } = request;
     let answer = native::find(read.slice(), fault, b, f, lend_all(&mut after));

@@ -5,11 +5,15 @@
 //! gives both the same call and looks at every answer and every lent byte;
 //! [`circuits`] and [`random`] make the calls, [`cases`] counts them. [`claim`]
 //! decides for small circuits what an accepted certificate promises.
+//! [`documents`] holds what the documents name against the repository's
+//! [`files`].
 
 pub mod cases;
 pub mod circuits;
 pub mod claim;
 pub mod compare;
+pub mod documents;
+pub mod files;
 pub mod model;
 pub mod native;
 pub mod random;

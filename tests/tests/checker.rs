@@ -4,24 +4,18 @@ use leverpeach_tests::cases::{run, Tally};
 use leverpeach_tests::circuits::certificates::{self, Argument};
 use leverpeach_tests::circuits::{calls, damaged, mutants, small, sound, structured, Draft};
 use leverpeach_tests::compare;
+use leverpeach_tests::files::{example, example_names};
 use leverpeach_tests::model::certificate::Subject;
 use leverpeach_tests::model::window::{Line, Step};
-use leverpeach_tests::model::{self, kind, Checked, Fault, Site};
+use leverpeach_tests::model::{self, Checked, Fault, Site};
 use leverpeach_tests::native::{self, accepted_number};
 use leverpeach_tests::random::Random;
-use std::fs;
-use std::path::Path;
 use std::time::{Duration, Instant};
-
-fn a_fault(random: &mut Random, draft: &Draft) -> Fault {
-    let fault = calls::fault(random, draft).meaning();
-    fault.expect("these bytes mean a fault")
-}
 
 /// Checks with work slices that are mostly long enough.
 fn check(random: &mut Random, netlist: &[u8], certificate: &[u8]) -> u64 {
     let needed = calls::work_needed(netlist, certificate);
-    let [first, second] = calls::work_slices(random, needed);
+    let [first, second] = calls::slices(random, [needed, needed]);
     compare::check(random, netlist, certificate, &first, &second)
 }
 
@@ -37,7 +31,7 @@ fn found(random: &mut Random) -> (Vec<u8>, Vec<u8>) {
     loop {
         let draft = small::any(random);
         let netlist = draft.to_bytes();
-        let fault = a_fault(random, &draft);
+        let fault = calls::fault(random, &draft);
         let (b, f) = (random.below(4) as u8, random.below(3) as u8);
         if let Some(certificate) = certificates::found(None, &netlist, fault, b, f) {
             return (netlist, certificate);
@@ -49,7 +43,7 @@ fn found(random: &mut Random) -> (Vec<u8>, Vec<u8>) {
 fn walked(random: &mut Random) -> (Vec<u8>, Vec<u8>) {
     let draft = small::any(random);
     let netlist = draft.to_bytes();
-    let fault = a_fault(random, &draft);
+    let fault = calls::fault(random, &draft);
     let subject = certificates::subject(random, fault, draft.nodes.len(), 5);
     let most = random.pick(&[0, 1, 3, 1_000, 1_000, 1_000]);
     let argument = certificates::walked(random, &netlist, subject, most);
@@ -83,7 +77,7 @@ fn the_order_of_all_steps_that_follow_does_not_matter() {
     run("orders", 4_000, |_, random| {
         let draft = small::any(random);
         let netlist = draft.to_bytes();
-        let fault = a_fault(random, &draft);
+        let fault = calls::fault(random, &draft);
         let subject = certificates::subject(random, fault, draft.nodes.len(), 4);
         let swept = certificates::swept(&netlist, subject).to_bytes();
         let walked = certificates::walked(random, &netlist, subject, usize::MAX).to_bytes();
@@ -130,8 +124,7 @@ fn damage(random: &mut Random, draft: &Draft, argument: &Argument, numbers: &[u6
             random.pick(&[(15, 0), (0, 15), (14, 1), (255, 0), (255, 255), (128, 128)]);
     }
     if numbers.contains(&9) {
-        let fault = calls::foreign_fault(random, draft).meaning();
-        argument.subject.fault = fault.expect("these bytes mean a fault");
+        argument.subject.fault = calls::foreign_fault(random, draft);
     }
     let mut bytes = argument.to_bytes();
     if numbers.contains(&8) {
@@ -156,7 +149,7 @@ fn step_of_no_node(draft: &Draft) -> Step {
 /// An argument whose branches close, or one of whose branches does not.
 fn argument(random: &mut Random, draft: &Draft, closing: bool) -> Option<Argument> {
     let netlist = draft.to_bytes();
-    let fault = a_fault(random, draft);
+    let fault = calls::fault(random, draft);
     if closing {
         let (b, f) = (random.below(3) as u8, random.below(3) as u8);
         let certificate = certificates::found(None, &netlist, fault, b, f)?;
@@ -244,7 +237,7 @@ fn planned_and_middling_circuits() {
         let draft = &drafts[case as usize % drafts.len()];
         let netlist = draft.to_bytes();
         for _ in 0..50 {
-            let fault = a_fault(random, draft);
+            let fault = calls::fault(random, draft);
             let subject = certificates::subject(random, fault, draft.nodes.len(), 15);
             let certificate = certificates::swept(&netlist, subject).to_bytes();
             tally.count(check_in_just_enough(random, &netlist, &certificate));
@@ -255,16 +248,12 @@ fn planned_and_middling_circuits() {
 
 #[test]
 fn examples_with_swept_certificates() {
-    let directory = Path::new(env!("CARGO_MANIFEST_DIR")).join("../examples");
-    for entry in fs::read_dir(directory).expect("the examples are there") {
-        let path = entry.expect("the entry is there").path();
-        if path.extension().is_none_or(|end| end != "net") {
-            continue;
-        }
-        println!("{}", path.display());
-        let netlist = fs::read(&path).expect("the example is there");
+    let mut tally = Tally::default();
+    for name in example_names() {
+        println!("{name}");
+        let netlist = example(&name);
         let nodes = calls::node_count(&netlist);
-        run("example certificates", 30, |_, random| {
+        run("example certificates", 300, |_, random| {
             let fault = Fault {
                 node: random.below(nodes) as u16,
                 site: Site::Whole,
@@ -274,8 +263,10 @@ fn examples_with_swept_certificates() {
             let certificate = certificates::swept(&netlist, subject).to_bytes();
             let answer = check_in_just_enough(random, &netlist, &certificate);
             assert!(answer == 15 || answer == accepted_number(subject.c));
+            tally.count(answer);
         });
     }
+    tally.assert_met(&[0, 15], 100);
 }
 
 /// More than a linear walk over the longest certificates takes, and far less
@@ -323,14 +314,8 @@ fn a_hundred_thousand_repeated_steps() {
 
 #[test]
 fn one_of_the_longest_certificates() {
-    // A flip-flop fed by itself, an AND of it twice, a chain and an output:
-    // each line but the split is a step, in both branches.
-    let mut draft = Draft::of(&[(kind::FLIP_FLOP, &[0]), (kind::AND, &[0, 0])]);
-    for node in 2..4_095 {
-        draft.push(kind::NOT, &[node - 1]);
-    }
-    draft.push(kind::OUTPUT, &[4_094]);
-    let netlist = draft.to_bytes();
+    // Each line but the split is a step, in both branches.
+    let netlist = structured::settled_chain(4_096).to_bytes();
     let (node, site, u) = (1, Site::Pin(0), 1);
     let subject = Subject {
         fault: Fault { node, site, u },

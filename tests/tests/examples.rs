@@ -2,24 +2,12 @@
 
 use leverpeach_tests::cases::run;
 use leverpeach_tests::compare;
+use leverpeach_tests::files::{example, example_names};
 use leverpeach_tests::native::FaultBytes;
 use leverpeach_tests::random::Random;
-use std::fs;
-use std::path::{Path, PathBuf};
 
 /// Clocks that a netlist is stepped with one fault.
 const CLOCKS: usize = 20;
-
-fn example_files() -> Vec<PathBuf> {
-    let directory = Path::new(env!("CARGO_MANIFEST_DIR")).join("../examples");
-    let entries = fs::read_dir(directory).expect("the examples are there");
-    let paths = entries.map(|entry| entry.unwrap().path());
-    let mut files: Vec<PathBuf> = paths
-        .filter(|path| path.extension().is_some_and(|end| end == "net"))
-        .collect();
-    files.sort();
-    files
-}
 
 /// Steps a netlist some clocks with one fault, each clock from what the one
 /// before latched, and with new inputs. Gives back how many clocks were done.
@@ -53,13 +41,11 @@ fn step_some_clocks(random: &mut Random, netlist: &[u8], nodes: usize) -> usize 
 
 #[test]
 fn examples_are_sound_and_step_alike() {
-    let files = example_files();
-    assert!(files.len() >= 10, "only {} examples", files.len());
-    for file in files {
-        println!("{}", file.display());
-        let netlist = fs::read(&file).unwrap();
+    for name in example_names() {
+        println!("{name}");
+        let netlist = example(&name);
         let answer = compare::read(&netlist);
-        assert!(answer > 16, "{} is refused: {answer}", file.display());
+        assert!(answer > 16, "{name} is refused: {answer}");
         let nodes = (answer >> 16 & 0xFFFF) as usize;
         let mut done = 0;
         run("example clocks", 100, |_, random| {

@@ -5,14 +5,13 @@ use leverpeach_tests::cases::run;
 use leverpeach_tests::circuits::calls::{self, Request};
 use leverpeach_tests::circuits::{damaged, small, sound, structured, worked, Draft};
 use leverpeach_tests::compare;
+use leverpeach_tests::files::example;
 use leverpeach_tests::model::netlist::Netlist;
 use leverpeach_tests::model::report::faults;
 use leverpeach_tests::model::{kind, Fault, Site};
 use leverpeach_tests::native::found_number;
 use leverpeach_tests::random::Random;
 use std::collections::BTreeMap;
-use std::fs;
-use std::path::Path;
 
 /// How often each answer was met: found by its c, refusals by their number.
 #[derive(Debug, Default)]
@@ -69,27 +68,15 @@ impl Met {
 /// Finds in slices that are mostly long enough.
 fn find(random: &mut Random, netlist: &[u8], request: Request) -> u64 {
     let needed = request.slice_lengths(calls::node_count(netlist));
-    let slices = calls::finder_slices(random, needed);
-    let slices = slices.each_ref().map(Vec::as_slice);
-    compare::find(random, netlist, request, slices).0
+    let slices = calls::slices(random, needed);
+    compare::find(random, netlist, request, &slices).0
 }
 
 /// Finds in slices that are just long enough.
 fn find_in_just_enough(random: &mut Random, netlist: &[u8], request: Request) -> u64 {
     let needed = request.slice_lengths(calls::node_count(netlist));
     let slices = needed.map(|length| random.bytes(length));
-    let slices = slices.each_ref().map(Vec::as_slice);
-    compare::find(random, netlist, request, slices).0
-}
-
-fn a_fault(random: &mut Random, draft: &Draft) -> Fault {
-    let fault = calls::fault(random, draft).meaning();
-    fault.expect("these bytes mean a fault")
-}
-
-fn a_foreign_fault(random: &mut Random, draft: &Draft) -> Fault {
-    let fault = calls::foreign_fault(random, draft).meaning();
-    fault.expect("these bytes mean a fault")
+    compare::find(random, netlist, request, &slices).0
 }
 
 fn every_fault(netlist: &[u8]) -> Vec<Fault> {
@@ -103,8 +90,8 @@ fn small_circuits() {
     run("small", 550_000, |_, random| {
         let draft = small::any(random);
         let fault = match random.below(100) {
-            0 => a_foreign_fault(random, &draft),
-            _ => a_fault(random, &draft),
+            0 => calls::foreign_fault(random, &draft),
+            _ => calls::fault(random, &draft),
         };
         let (b, f) = calls::bounds(random);
         let request = Request { fault, b, f };
@@ -155,7 +142,7 @@ fn wide_windows_of_planned_circuits() {
         let nodes = random.between(30, 60) as u16;
         let drafts = planned(nodes);
         let draft = &drafts[random.below(drafts.len())];
-        let fault = a_fault(random, draft);
+        let fault = calls::fault(random, draft);
         let (b, f) = random.pick(&[(2, 2), (4, 3), (5, 5), (7, 7), (14, 0), (0, 14), (3, 9)]);
         let request = Request { fault, b, f };
         met.count(find_in_just_enough(random, &draft.to_bytes(), request));
@@ -177,15 +164,15 @@ fn find_in_every_window(random: &mut Random, netlist: &[u8], fault: Fault, met: 
 
 #[test]
 fn every_b_and_f_of_a_window_that_is_not_too_wide() {
-    let worked = [
-        worked::INPUT.to_vec(),
-        worked::SELF_FED.to_vec(),
-        worked::and_twice(),
-        worked::p1(),
+    let worked: [&[u8]; 4] = [
+        &worked::INPUT,
+        &worked::SELF_FED,
+        &worked::AND_TWICE,
+        &worked::P1,
     ];
     let mut met = Met::default();
     run("windows", worked.len() as u64, |case, random| {
-        let netlist = &worked[case as usize];
+        let netlist = worked[case as usize];
         for fault in every_fault(netlist) {
             find_in_every_window(random, netlist, fault, &mut met);
         }
@@ -193,7 +180,7 @@ fn every_b_and_f_of_a_window_that_is_not_too_wide() {
     met.assert_found_and_none(500, 500);
     run("windows of small circuits", 380, |_, random| {
         let draft = small::any(random);
-        let fault = a_fault(random, &draft);
+        let fault = calls::fault(random, &draft);
         find_in_every_window(random, &draft.to_bytes(), fault, &mut met);
     });
     met.assert_found_and_none(5_000, 5_000);
@@ -208,7 +195,7 @@ fn windows_that_are_too_wide() {
         let draft = small::any(random);
         let large = wide[case as usize % wide.len()];
         for small in 15 - large.min(15)..=16 {
-            let fault = a_fault(random, &draft);
+            let fault = calls::fault(random, &draft);
             for (b, f) in [(large, small), (small, large)] {
                 let request = Request { fault, b, f };
                 let answer = find_in_just_enough(random, &draft.to_bytes(), request);
@@ -221,7 +208,7 @@ fn windows_that_are_too_wide() {
 /// Equal shift registers of this depth from one input, a gate of their ends,
 /// and its output.
 fn equal_registers(registers: u16, depth: u16, kind: u8) -> Draft {
-    let mut draft = Draft::of(&[(kind::INPUT, &[])]);
+    let mut draft = Draft::inputs(1);
     for register in 0..registers {
         draft.push(kind::FLIP_FLOP, &[0]);
         for stage in 1..depth {
@@ -274,8 +261,8 @@ fn the_smallest_c_is_answered() {
 /// for each of 9 to 12.
 fn damaged_call(random: &mut Random, draft: &Draft, numbers: &[u64]) -> (Request, [Vec<u8>; 3]) {
     let fault = match numbers.contains(&9) {
-        true => a_foreign_fault(random, draft),
-        false => a_fault(random, draft),
+        true => calls::foreign_fault(random, draft),
+        false => calls::fault(random, draft),
     };
     let (b, f) = match numbers.contains(&10) {
         true => random.pick(&[(15, 0), (0, 15), (14, 1), (255, 0), (255, 255), (128, 128)]),
@@ -302,8 +289,7 @@ fn the_smallest_of_several_damages_is_the_refusal() {
         let numbers: Vec<u64> = numbers.map(|bit| 9 + bit).collect();
         let draft = small::any(random);
         let (request, slices) = damaged_call(random, &draft, &numbers);
-        let slices = slices.each_ref().map(Vec::as_slice);
-        let (answer, _) = compare::find(random, &draft.to_bytes(), request, slices);
+        let (answer, _) = compare::find(random, &draft.to_bytes(), request, &slices);
         match numbers.first() {
             Some(smallest) => assert_eq!(answer, *smallest, "of {numbers:?}"),
             None => assert!(answer == 0 || answer > 16),
@@ -331,8 +317,7 @@ fn netlists_that_are_not_sound() {
             let length = random.pick(&[0, 1, 25, 2_000]);
             random.bytes(length)
         });
-        let slices = slices.each_ref().map(Vec::as_slice);
-        let (answer, _) = compare::find(random, &netlist, Request { fault, b, f }, slices);
+        let (answer, _) = compare::find(random, &netlist, Request { fault, b, f }, &slices);
         assert_eq!(answer, number);
     });
 }
@@ -343,7 +328,7 @@ fn middling_circuits() {
     run("middling", 15_000, |_, random| {
         let nodes = random.between(13, 40);
         let draft = sound::random(random, nodes);
-        let fault = a_fault(random, &draft);
+        let fault = calls::fault(random, &draft);
         let (b, f) = (random.below(4) as u8, random.below(3) as u8);
         let request = Request { fault, b, f };
         met.count(find(random, &draft.to_bytes(), request));
@@ -351,11 +336,6 @@ fn middling_circuits() {
     met.assert_found_and_none(3_000, 3_000);
     met.assert_found_at(&[0, 1, 2], 20);
     met.assert_total(15_000);
-}
-
-fn example(name: &str) -> Vec<u8> {
-    let examples = Path::new(env!("CARGO_MANIFEST_DIR")).join("../examples");
-    fs::read(examples.join(name)).expect("the example is there")
 }
 
 #[test]
@@ -375,12 +355,12 @@ fn every_fault_of_the_small_examples() {
     ];
     // How many faults are found with each of these bounds.
     for (name, found) in [
-        ("and2.net", [2; 10]),
-        ("p1.net", [0, 1, 3, 4, 3, 4, 3, 1, 4, 4]),
-        ("ffself.net", [0, 0, 4, 4, 4, 4, 4, 0, 4, 4]),
-        ("s27.net", [0; 10]),
-        ("mix30.net", [11, 11, 12, 12, 12, 12, 12, 11, 12, 12]),
-        ("random30.net", [43, 43, 54, 60, 88, 96, 88, 43, 96, 96]),
+        ("and2", [2; 10]),
+        ("p1", [0, 1, 3, 4, 3, 4, 3, 1, 4, 4]),
+        ("ffself", [0, 0, 4, 4, 4, 4, 4, 0, 4, 4]),
+        ("s27", [0; 10]),
+        ("mix30", [11, 11, 12, 12, 12, 12, 12, 11, 12, 12]),
+        ("random30", [43, 43, 54, 60, 88, 96, 88, 43, 96, 96]),
     ] {
         let netlist = example(name);
         for ((b, f), found) in bounds.into_iter().zip(found) {
@@ -397,7 +377,7 @@ fn every_fault_of_the_small_examples() {
 #[test]
 fn some_faults_of_the_large_examples() {
     let mut met = Met::default();
-    for name in ["mix100.net", "random100.net", "mix290.net", "random290.net"] {
+    for name in ["mix100", "random100", "mix290", "random290"] {
         let netlist = example(name);
         let faults = every_fault(&netlist);
         println!("{name}");
@@ -415,14 +395,8 @@ fn some_faults_of_the_large_examples() {
 
 #[test]
 fn the_longest_certificates() {
-    // A flip-flop fed by itself, an AND of it twice, a chain and an output:
-    // each line but the split is a step, in both branches.
-    let mut draft = Draft::of(&[(kind::FLIP_FLOP, &[0]), (kind::AND, &[0, 0])]);
-    for node in 2..4_095 {
-        draft.push(kind::NOT, &[node - 1]);
-    }
-    draft.push(kind::OUTPUT, &[4_094]);
-    let netlist = draft.to_bytes();
+    // Each line but the split is a step, in both branches.
+    let netlist = structured::settled_chain(4_096).to_bytes();
     let (node, site, u) = (1, Site::Pin(0), 1);
     let fault = Fault { node, site, u };
     run("longest", 15, |case, random| {
@@ -445,10 +419,7 @@ fn splits_at_nodes_above_255() {
         // Inputs, an AND of the last one twice, and its output: only that input
         // and what hangs on it tell of the AND's pin.
         let inputs: u16 = counts[case as usize];
-        let mut draft = Draft::default();
-        for _ in 0..inputs {
-            draft.push(kind::INPUT, &[]);
-        }
+        let mut draft = Draft::inputs(inputs.into());
         draft.push(kind::AND, &[inputs - 1, inputs - 1]);
         draft.push(kind::OUTPUT, &[inputs]);
         let (node, site, u) = (inputs, Site::Pin(1), 1);
@@ -459,8 +430,7 @@ fn splits_at_nodes_above_255() {
         };
         let needed = request.slice_lengths(draft.nodes.len());
         let slices = needed.map(|length| random.bytes(length));
-        let slices = slices.each_ref().map(Vec::as_slice);
-        let (answer, certificate) = compare::find(random, &draft.to_bytes(), request, slices);
+        let (answer, certificate) = compare::find(random, &draft.to_bytes(), request, &slices);
         // In both branches the AND and the output follow.
         assert_eq!(answer, found_number(0, 25 + 4 * 7));
         let ([low, high], split) = (inputs.to_le_bytes(), (inputs - 1).to_le_bytes());

@@ -97,15 +97,14 @@ fn planned_circuits_of_all_sizes_are_sound() {
 
 #[test]
 fn one_node_or_one_pin_too_many() {
-    let inputs = |count| Draft::of(&vec![(INPUT, &[][..]); count]);
-    assert_eq!(compare::read(&inputs(1).to_bytes()), sound_number(1, 0));
-    let most = inputs(4_096).to_bytes();
-    assert_eq!(compare::read(&most), sound_number(4_096, 0));
-    assert_eq!(compare::read(&inputs(4_097).to_bytes()), 2);
-    assert_eq!(compare::read(&inputs(0).to_bytes()), 2);
+    let read_inputs = |count| compare::read(&Draft::inputs(count).to_bytes());
+    assert_eq!(read_inputs(1), sound_number(1, 0));
+    assert_eq!(read_inputs(4_096), sound_number(4_096, 0));
+    assert_eq!(read_inputs(4_097), 2);
+    assert_eq!(read_inputs(0), 2);
 
     // 16,384 pins on 2,048 gates of eight, and one gate of two more.
-    let mut draft = inputs(1);
+    let mut draft = Draft::inputs(1);
     for _ in 0..2_048 {
         draft.push(AND, &[0; 8]);
     }

@@ -2,23 +2,18 @@
 
 use leverpeach_tests::cases::run;
 use leverpeach_tests::circuits::{damaged, raw, small, structured, worked, Draft};
+use leverpeach_tests::files::{example, top_folder};
 use leverpeach_tests::model::{self, kind};
 use leverpeach_tests::random::Random;
-use std::fs;
 use std::io::{ErrorKind, Write};
-use std::path::{Path, PathBuf};
 use std::process::{Command, Stdio};
 use std::thread;
 use std::time::Duration;
 
-fn repository() -> PathBuf {
-    Path::new(env!("CARGO_MANIFEST_DIR")).join("..")
-}
-
 /// What the program prints when its input comes in these pieces, one after the
 /// other.
 fn printed_for_pieces(pieces: &[&[u8]]) -> String {
-    let path = repository().join("target/bin/report");
+    let path = top_folder().join("target/bin/report");
     assert!(
         path.is_file(),
         "{} is missing: build it with scripts/build check report",
@@ -93,16 +88,15 @@ fn pins_come_before_the_node_itself() {
 #[test]
 fn examples() {
     for (name, b, f, last) in [
-        ("and2.net", 0, 0, "2 of 12"),
-        ("p1.net", 1, 0, "3 of 24"),
-        ("ffself.net", 1, 0, "4 of 4"),
-        ("s27.net", 3, 1, "0 of 80"),
-        ("mix30.net", 2, 1, "12 of 140"),
-        ("random30.net", 2, 1, "96 of 166"),
+        ("and2", 0, 0, "2 of 12"),
+        ("p1", 1, 0, "3 of 24"),
+        ("ffself", 1, 0, "4 of 4"),
+        ("s27", 3, 1, "0 of 80"),
+        ("mix30", 2, 1, "12 of 140"),
+        ("random30", 2, 1, "96 of 166"),
     ] {
-        let path = repository().join("examples").join(name);
-        let netlist = fs::read(path).expect("the example is there");
-        assert_eq!(last_line(&compare(&input(b, f, &netlist))), last, "{name}");
+        let text = compare(&input(b, f, &example(name)));
+        assert_eq!(last_line(&text), last, "{name}");
     }
 }
 
@@ -153,7 +147,7 @@ fn netlists_that_are_not_sound() {
 
 #[test]
 fn windows_that_are_too_wide() {
-    let netlist = worked::and_twice();
+    let netlist = worked::AND_TWICE;
     for (b, f) in [(14, 1), (15, 0), (0, 15), (255, 0), (0, 255), (255, 255)] {
         assert_eq!(compare(&input(b, f, &netlist)), "refused 10\n");
     }
@@ -162,17 +156,10 @@ fn windows_that_are_too_wide() {
     }
 }
 
-/// Inputs alone: every fault is found at the first split.
-fn inputs(nodes: usize) -> Vec<u8> {
-    let mut draft = Draft::default();
-    for _ in 0..nodes {
-        draft.push(kind::INPUT, &[]);
-    }
-    draft.to_bytes()
-}
-
 #[test]
 fn the_certificate_s_buffer_limits_nodes_and_frames() {
+    // Of inputs alone every fault is found at the first split.
+    let inputs = |nodes| Draft::inputs(nodes).to_bytes();
     // Nodes times frames is 4,680, just too many.
     for (b, f, nodes) in [(1, 0, 2_340), (0, 1, 2_340), (0, 2, 1_560), (14, 0, 312)] {
         assert_eq!(compare(&input(b, f, &inputs(nodes))), "refused 12\n");
@@ -191,10 +178,7 @@ fn the_certificate_s_buffer_limits_nodes_and_frames() {
 #[test]
 fn more_faults_than_four_digits_count() {
     // Without an output every fault is found at once.
-    let mut draft = Draft::default();
-    for _ in 0..3_000 {
-        draft.push(kind::INPUT, &[]);
-    }
+    let mut draft = Draft::inputs(3_000);
     for _ in 0..1_001 {
         draft.push(kind::BUFFER, &[1]);
     }
@@ -205,7 +189,7 @@ fn more_faults_than_four_digits_count() {
 #[test]
 fn input_longer_than_the_buffer() {
     let mut random = Random::new(8);
-    let netlist = worked::and_twice();
+    let netlist = worked::AND_TWICE;
     for length in [65_535, 65_536, 65_537, 200_000] {
         let mut sound_at_first = input(0, 0, &netlist);
         let more = length - sound_at_first.len();
@@ -226,10 +210,7 @@ fn input_longer_than_the_buffer() {
 
 /// As many nodes and pins as a netlist may have.
 fn longest_netlist() -> Vec<u8> {
-    let mut draft = Draft::default();
-    for _ in 0..2_048 {
-        draft.push(kind::INPUT, &[]);
-    }
+    let mut draft = Draft::inputs(2_048);
     for _ in 0..2_048 {
         draft.push(kind::NOR, &[0; 8]);
     }
@@ -238,7 +219,7 @@ fn longest_netlist() -> Vec<u8> {
 
 #[test]
 fn input_that_comes_in_pieces() {
-    let netlist = worked::and_twice();
+    let netlist = worked::AND_TWICE;
     let whole = input(0, 0, &netlist);
     let expected = model::report(&whole);
     for cut in [1, 2, 3, 4, 20, whole.len() - 1] {

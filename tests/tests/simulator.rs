@@ -23,7 +23,7 @@ fn sound_circuits_with_and_without_faults() {
         let draft = sound::random(random, 1 + (case % 50) as usize);
         let fault = match random.below(4) {
             0 => calls::no_fault(random),
-            _ => calls::fault(random, &draft),
+            _ => calls::fault_bytes(random, &draft),
         };
         step(random, &draft, fault);
     });
@@ -34,13 +34,13 @@ fn calls_that_are_turned_back() {
     let mut tally = Tally::default();
     run("turned back", 40_000, |case, random| {
         let draft = sound::random(random, 1 + (case % 30) as usize);
-        let mut fault = calls::fault(random, &draft);
+        let mut fault = calls::fault_bytes(random, &draft);
         let mut first = calls::first(random, &draft);
         let mut second = random.bytes(first.len());
         // Bit by bit: a foreign fault, a spoiled place, a wrong length each.
         let wrong = case / 30 % 16;
         if wrong & 1 != 0 {
-            fault = calls::foreign_fault(random, &draft);
+            fault = calls::foreign_fault_bytes(random, &draft);
         }
         if wrong & 2 != 0 {
             calls::spoil(random, &draft, &mut first);
@@ -103,7 +103,7 @@ fn netlists_past_every_limit() {
         let slice = vec![1; nodes];
         compare::simulate(&mut random, netlist, FaultBytes::NONE, &slice, &slice).0
     };
-    let inputs = |count| Draft::of(&vec![(INPUT, &[][..]); count]).to_bytes();
+    let inputs = |count| Draft::inputs(count).to_bytes();
     assert_eq!(answer(&inputs(4_096), 4_096), 0);
     assert_eq!(answer(&inputs(4_097), 4_097), 2);
     assert_eq!(answer(&inputs(0), 0), 2);
@@ -156,7 +156,7 @@ fn every_fault_that_can_be_written_near_a_circuit() {
 fn the_largest_circuits() {
     run("largest", 400, |_, random| {
         let draft = sound::of_size(random, 4_096, 16_384);
-        let fault = calls::fault(random, &draft);
+        let fault = calls::fault_bytes(random, &draft);
         step(random, &draft, fault);
     });
 }
@@ -166,7 +166,7 @@ fn planned_circuits_of_all_sizes() {
     run("planned", 20, |_, random| {
         for nodes in [2, 3, 17, 255, 256, 257, 4_095, 4_096] {
             for draft in structured::all(nodes) {
-                let fault = calls::fault(random, &draft);
+                let fault = calls::fault_bytes(random, &draft);
                 step(random, &draft, fault);
                 let fault = calls::no_fault(random);
                 step(random, &draft, fault);
@@ -216,10 +216,7 @@ fn a_counter_counts() {
 #[test]
 fn wide_gates_under_every_input() {
     for pins in 2..=8_u16 {
-        let mut draft = Draft::default();
-        for _ in 0..pins {
-            draft.push(INPUT, &[]);
-        }
+        let mut draft = Draft::inputs(pins.into());
         let sources: Vec<u16> = (0..pins).collect();
         for kind in AND..=NOR {
             draft.push(kind, &sources);

@@ -1,33 +1,12 @@
 //! Cases worked by hand from the paper. The expected values are written out,
 //! and library and model must both give them.
 
+use leverpeach_tests::circuits::worked::{AND_TWICE, INPUT, P1, SELF_FED};
 use leverpeach_tests::circuits::Draft;
 use leverpeach_tests::compare;
+use leverpeach_tests::files::example;
 use leverpeach_tests::native::FaultBytes;
 use leverpeach_tests::random::Random;
-use std::fs;
-use std::path::Path;
-
-/// An AND of one input twice, and its output.
-const AND_TWICE: [u8; 25] = [
-    3, 0, 3, 0, // three nodes, three pins
-    0, 0, 0, 0, 0, // input
-    5, 0, 0, 2, 0, // AND, pins 0 and 1
-    1, 2, 0, 1, 0, // output, pin 2
-    0, 0, 0, 0, 1, 0, // sources 0, 0 and 1
-];
-
-/// a; flip-flops b(a), c(a); AND(b, c); outputs of nodes 3 and 2.
-const P1: [u8; 46] = [
-    6, 0, 6, 0, // six nodes, six pins
-    0, 0, 0, 0, 0, // a
-    2, 0, 0, 1, 0, // b
-    2, 1, 0, 1, 0, // c
-    5, 2, 0, 2, 0, // AND
-    1, 4, 0, 1, 0, // output of node 3
-    1, 5, 0, 1, 0, // output of node 2
-    0, 0, 0, 0, 1, 0, 2, 0, 3, 0, 2, 0, // sources
-];
 
 fn simulate(netlist: &[u8], fault: FaultBytes, first: &[u8]) -> (u64, Vec<u8>, Vec<u8>) {
     let second = vec![170; first.len()];
@@ -52,26 +31,25 @@ fn examples_of_the_refusals_of_a_netlist() {
 
 #[test]
 fn examples_of_the_refusals_of_a_clock_step() {
-    let input = [1, 0, 0, 0, 0, 0, 0, 0, 0];
     let unaltered = |number, first: &[u8]| (number, first.to_vec(), vec![170; first.len()]);
     let pin_of_input = FaultBytes::new(0, 0, 0);
-    assert_eq!(simulate(&input, pin_of_input, &[1]), unaltered(9, &[1]));
-    assert_eq!(simulate(&input, pin_of_input, &[2]), unaltered(9, &[2]));
+    assert_eq!(simulate(&INPUT, pin_of_input, &[1]), unaltered(9, &[1]));
+    assert_eq!(simulate(&INPUT, pin_of_input, &[2]), unaltered(9, &[2]));
     assert_eq!(
-        simulate(&input, FaultBytes::NONE, &[2]),
+        simulate(&INPUT, FaultBytes::NONE, &[2]),
         unaltered(16, &[2])
     );
     // The place of a faulted input is read too.
     let stuck = FaultBytes::new(0, 255, 1);
-    assert_eq!(simulate(&input, stuck, &[2]), unaltered(16, &[2]));
-    assert_eq!(simulate(&input, stuck, &[0]), (0, vec![1], vec![0]));
-    assert_eq!(simulate(&input, stuck, &[]), unaltered(16, &[]));
-    assert_eq!(simulate(&input, stuck, &[0, 0]), unaltered(16, &[0, 0]));
+    assert_eq!(simulate(&INPUT, stuck, &[2]), unaltered(16, &[2]));
+    assert_eq!(simulate(&INPUT, stuck, &[0]), (0, vec![1], vec![0]));
+    assert_eq!(simulate(&INPUT, stuck, &[]), unaltered(16, &[]));
+    assert_eq!(simulate(&INPUT, stuck, &[0, 0]), unaltered(16, &[0, 0]));
 }
 
 #[test]
 fn the_smallest_sound_netlist_is_an_input() {
-    let answer = compare::read(&[1, 0, 0, 0, 0, 0, 0, 0, 0]);
+    let answer = compare::read(&INPUT);
     assert_eq!(answer, 4_294_967_296 + 65_536);
 }
 
@@ -93,8 +71,7 @@ fn the_and_of_one_input_twice() {
 #[test]
 fn p1_is_sound_and_is_the_example_file() {
     assert_eq!(compare::read(&P1), 4_294_967_296 + 65_536 * 6 + 6);
-    let file = Path::new(env!("CARGO_MANIFEST_DIR")).join("../examples/p1.net");
-    assert_eq!(fs::read(file).unwrap(), P1);
+    assert_eq!(example("p1"), P1);
 }
 
 #[test]
@@ -156,8 +133,7 @@ fn truth_tables_of_the_kinds_with_one_pin() {
 
 #[test]
 fn a_flip_flop_fed_by_itself_keeps_its_value_and_loses_it_to_a_fault() {
-    let netlist = [1, 0, 1, 0, 2, 0, 0, 1, 0, 0, 0];
-    let stepped = |fault, value| simulate(&netlist, fault, &[value]);
+    let stepped = |fault, value| simulate(&SELF_FED, fault, &[value]);
     assert_eq!(stepped(FaultBytes::NONE, 0), (0, vec![0], vec![0]));
     assert_eq!(stepped(FaultBytes::NONE, 1), (0, vec![1], vec![1]));
     // Its node stuck: seen and so latched. Its pin stuck: latched only.

@@ -2,7 +2,7 @@
 //! written out, and library and model must both give them.
 
 use leverpeach_tests::circuits::worked::{
-    and_twice, p1, INPUT, P1_CERTIFICATE, P7_CERTIFICATE, SELF_FED, SELF_FED_PIN,
+    AND_TWICE, INPUT, P1, P1_CERTIFICATE, P7_CERTIFICATE, SELF_FED, SELF_FED_PIN,
 };
 use leverpeach_tests::circuits::{certificates, Draft};
 use leverpeach_tests::compare;
@@ -46,12 +46,12 @@ fn stepless(subject: [u8; 9]) -> Vec<u8> {
 
 #[test]
 fn p1_is_found_and_accepted_with_c_1() {
-    let found = certificates::found(None, &p1(), fault(3, 1, 1), 1, 0);
+    let found = certificates::found(None, &P1, fault(3, 1, 1), 1, 0);
     assert_eq!(found.as_deref(), Some(&P1_CERTIFICATE[..]));
-    assert_eq!(check(&p1(), &P1_CERTIFICATE), ACCEPTED_1);
-    assert_eq!(check_in(&p1(), &P1_CERTIFICATE, [12, 12]), ACCEPTED_1);
-    assert_eq!(check_in(&p1(), &P1_CERTIFICATE, [11, 12]), 11);
-    assert_eq!(check_in(&p1(), &P1_CERTIFICATE, [12, 11]), 11);
+    assert_eq!(check(&P1, &P1_CERTIFICATE), ACCEPTED_1);
+    assert_eq!(check_in(&P1, &P1_CERTIFICATE, [12, 12]), ACCEPTED_1);
+    assert_eq!(check_in(&P1, &P1_CERTIFICATE, [11, 12]), 11);
+    assert_eq!(check_in(&P1, &P1_CERTIFICATE, [12, 11]), 11);
 }
 
 #[test]
@@ -64,7 +64,7 @@ fn the_finder_counts_the_steps_of_p1_and_clears_its_work() {
         certificate: &mut certificate,
     };
     let (c, length, steps) = (1, 95, 10);
-    let finding = find(&p1(), fault(3, 1, 1), 1, 0, lent);
+    let finding = find(&P1, fault(3, 1, 1), 1, 0, lent);
     assert_eq!(finding, Finding::Found { c, length, steps });
     assert_eq!(certificate[..95], P1_CERTIFICATE);
     assert!(certificate[95..].iter().all(|byte| *byte == 9));
@@ -74,7 +74,7 @@ fn the_finder_counts_the_steps_of_p1_and_clears_its_work() {
 
 #[test]
 fn p2_at_c_0_is_not_found() {
-    assert_eq!(certificates::found(None, &p1(), fault(3, 1, 1), 0, 0), None);
+    assert_eq!(certificates::found(None, &P1, fault(3, 1, 1), 0, 0), None);
 }
 
 #[test]
@@ -87,7 +87,7 @@ fn p1_with_its_steps_spoiled() {
             let steps = nodes.iter().map(|node| [*node, 0, 1, value, *node, 0, 1]);
             steps.collect::<Vec<[u8; 7]>>()
         });
-        check(&p1(), &with_runs(subject, [&runs[0], &runs[1]]))
+        check(&P1, &with_runs(subject, [&runs[0], &runs[1]]))
     };
     assert_eq!(check(&[1, 2, 3, 4, 5]), ACCEPTED_1);
     assert_eq!(check(&[1, 2]), ACCEPTED_1);
@@ -101,22 +101,22 @@ fn p1_with_its_steps_spoiled() {
 
 #[test]
 fn p3_to_p5_the_and_of_one_input_twice() {
-    let found = |node, site, u| certificates::found(None, &and_twice(), fault(node, site, u), 0, 0);
+    let found = |node, site, u| certificates::found(None, &AND_TWICE, fault(node, site, u), 0, 0);
     let certificate = found(1, 0, 1).expect("P3 is found");
     assert_eq!(certificate[..9], [1, 0, 0, 1, 0, 0, 0, 0, 0]);
-    assert_eq!(check(&and_twice(), &certificate), ACCEPTED_0);
+    assert_eq!(check(&AND_TWICE, &certificate), ACCEPTED_0);
     assert_eq!(found(1, 0, 0), None);
     assert_eq!(found(0, 255, 1), None);
     // No steps are needed: branch 0 knows the untouched pin 1, branch 1 that
     // the faulted pin is u.
     let none = stepless([1, 0, 0, 1, 0, 0, 0, 0, 0]);
-    assert_eq!(check(&and_twice(), &none), ACCEPTED_0);
+    assert_eq!(check(&AND_TWICE, &none), ACCEPTED_0);
     // P5: in branch 0 both pins are touched, and a touched pin blocks nothing.
     let p5 = stepless([0, 0, 255, 1, 0, 0, 0, 0, 0]);
-    assert_eq!(check(&and_twice(), &p5), 15);
+    assert_eq!(check(&AND_TWICE, &p5), 15);
     let subject = [0, 0, 255, 1, 0, 0, 0, 0, 0];
     let p5 = with_runs(subject, [&[[1, 0, 0, 0, 1, 0, 0]], &[]]);
-    assert_eq!(check(&and_twice(), &p5), 15);
+    assert_eq!(check(&AND_TWICE, &p5), 15);
 }
 
 #[test]
@@ -162,7 +162,7 @@ fn pins_are_separate_even_with_one_source() {
     // steps tell of the input in frame 0, which closes nothing in frame 1.
     let check = |u, runs: [&[[u8; 7]]; 2]| {
         let subject = [1, 0, 0, u, 1, 0, 1, 0, 0];
-        check(&and_twice(), &with_runs(subject, runs))
+        check(&AND_TWICE, &with_runs(subject, runs))
     };
     let input = |value| [0, 0, 0, value, 1, 0, 0];
     // Stuck at 1: what the AND is, its other pin is.

@@ -3,7 +3,7 @@
 
 use leverpeach_tests::circuits::calls::Request;
 use leverpeach_tests::circuits::worked::{
-    and_twice, p1, INPUT, P1_CERTIFICATE, P7_CERTIFICATE, SELF_FED, SELF_FED_PIN,
+    AND_TWICE, INPUT, P1, P1_CERTIFICATE, P7_CERTIFICATE, SELF_FED, SELF_FED_PIN,
 };
 use leverpeach_tests::circuits::Draft;
 use leverpeach_tests::compare;
@@ -35,8 +35,7 @@ fn find_in(
         f: bounds[1],
     };
     let slices = lengths.map(|length| vec![170; length]);
-    let slices = slices.each_ref().map(Vec::as_slice);
-    compare::find(&mut Random::new(2), netlist, request, slices)
+    compare::find(&mut Random::new(2), netlist, request, &slices)
 }
 
 fn find(netlist: &[u8], fault: [u16; 3], bounds: [u8; 2]) -> (u64, Vec<u8>) {
@@ -50,17 +49,17 @@ fn found(answer: u64, certificate: &[u8]) -> (u64, Vec<u8>) {
 #[test]
 fn p1_is_found_with_c_1_in_95_bytes() {
     let expected = found(FOUND_1 + 95, &P1_CERTIFICATE);
-    assert_eq!(find(&p1(), [3, 1, 1], [1, 0]), expected);
+    assert_eq!(find(&P1, [3, 1, 1], [1, 0]), expected);
     // Six nodes and two frames.
     let exact = [12, 12, 25 + 14 * 12];
-    assert_eq!(find_in(exact, &p1(), [3, 1, 1], [1, 0]), expected);
+    assert_eq!(find_in(exact, &P1, [3, 1, 1], [1, 0]), expected);
     // A wider bound finds the same, since c rises.
-    assert_eq!(find(&p1(), [3, 1, 1], [14, 0]), expected);
+    assert_eq!(find(&P1, [3, 1, 1], [14, 0]), expected);
 }
 
 #[test]
 fn p2_at_c_0_is_not_found() {
-    assert_eq!(find(&p1(), [3, 1, 1], [0, 0]), NONE);
+    assert_eq!(find(&P1, [3, 1, 1], [0, 0]), NONE);
 }
 
 #[test]
@@ -75,7 +74,7 @@ fn p3_to_p5_the_and_of_one_input_twice() {
         1, 0, 0, 1, 1, 0, 0, //
         2, 0, 0, 1, 2, 0, 0, //
     ];
-    let find = |fault| find(&and_twice(), fault, [0, 0]);
+    let find = |fault| find(&AND_TWICE, fault, [0, 0]);
     assert_eq!(find([1, 0, 1]), found(FOUND_0 + 53, &p3));
     assert_eq!(find([1, 0, 0]), NONE);
     assert_eq!(find([0, 255, 1]), NONE);

@@ -6,9 +6,22 @@ use crate::model::certificate::{HEAD, STEP};
 use crate::model::{kind, Fault};
 use crate::native::FaultBytes;
 use crate::random::Random;
+use std::array;
 
 /// A fault that the netlist has.
-pub fn fault(random: &mut Random, draft: &Draft) -> FaultBytes {
+pub fn fault(random: &mut Random, draft: &Draft) -> Fault {
+    let bytes = fault_bytes(random, draft);
+    bytes.meaning().expect("these bytes mean a fault")
+}
+
+/// A fault that the netlist does not have, or whose u is no value.
+pub fn foreign_fault(random: &mut Random, draft: &Draft) -> Fault {
+    let bytes = foreign_fault_bytes(random, draft);
+    bytes.meaning().expect("these bytes mean a fault")
+}
+
+/// A fault that the netlist has, for the simulator.
+pub fn fault_bytes(random: &mut Random, draft: &Draft) -> FaultBytes {
     let node = random.below(draft.nodes.len());
     let pins = draft.nodes[node].sources.len();
     let site = match random.below(pins + 1) {
@@ -25,7 +38,7 @@ pub fn fault(random: &mut Random, draft: &Draft) -> FaultBytes {
     }
 }
 
-/// No fault, beside bytes that must not matter then.
+/// No fault, for the simulator, beside bytes that must not matter then.
 pub fn no_fault(random: &mut Random) -> FaultBytes {
     FaultBytes {
         faulted: 0,
@@ -35,9 +48,10 @@ pub fn no_fault(random: &mut Random) -> FaultBytes {
     }
 }
 
-/// A fault that the netlist does not have, or whose u is no value.
-pub fn foreign_fault(random: &mut Random, draft: &Draft) -> FaultBytes {
-    let mut fault = fault(random, draft);
+/// A fault that the netlist does not have, or whose u is no value, for the
+/// simulator.
+pub fn foreign_fault_bytes(random: &mut Random, draft: &Draft) -> FaultBytes {
+    let mut fault = fault_bytes(random, draft);
     let nodes = draft.nodes.len() as u16;
     let pins = draft.nodes[usize::from(fault.node)].sources.len() as u8;
     match random.below(3) {
@@ -69,8 +83,8 @@ pub fn spoil(random: &mut Random, draft: &Draft, first: &mut [u8]) {
     }
 }
 
-/// A slice that is not of its right length: a byte too long or too short,
-/// empty, or of any other small length.
+/// Gives a slice a wrong length: a byte too short or too long, none at all, or
+/// much too long.
 pub fn resize(random: &mut Random, slice: &mut Vec<u8>) {
     let right = slice.len();
     let wrong = match random.below(4) {
@@ -97,14 +111,15 @@ pub fn work_needed(netlist: &[u8], certificate: &[u8]) -> usize {
     node_count(netlist) * frames.min(15)
 }
 
-/// Two work slices with anything in them: mostly long enough, sometimes one of
-/// them a byte too short or empty.
-pub fn work_slices(random: &mut Random, needed: usize) -> [Vec<u8>; 2] {
-    let short = random.below(40);
-    [0, 1].map(|slice| {
+/// Slices with anything in them, for these lengths: mostly long enough, rarely
+/// one of them a byte too short or shorter still.
+pub fn slices<const COUNT: usize>(random: &mut Random, needed: [usize; COUNT]) -> [Vec<u8>; COUNT] {
+    let short = random.below(30 * COUNT);
+    array::from_fn(|slice| {
+        let needed = needed[slice];
         let length = match random.below(4) {
             _ if short == slice => needed - 1,
-            _ if short == slice + 2 => random.below(needed),
+            _ if short == slice + COUNT => random.below(needed),
             0 | 1 => needed,
             2 => needed + 1,
             _ => needed + random.below(50),
@@ -144,21 +159,4 @@ pub fn bounds(random: &mut Random) -> (u8, u8) {
         2..=40 => (random.below(6) as u8, random.below(4) as u8),
         _ => (random.below(3) as u8, random.below(3) as u8),
     }
-}
-
-/// The finder's slices with anything in them, for these lengths: mostly long
-/// enough, rarely one of them a byte too short or empty.
-pub fn finder_slices(random: &mut Random, needed: [usize; 3]) -> [Vec<u8>; 3] {
-    let short = random.below(90);
-    [0, 1, 2].map(|slice| {
-        let needed = needed[slice];
-        let length = match random.below(4) {
-            _ if short == slice => needed - 1,
-            _ if short == slice + 3 => random.below(needed),
-            0 | 1 => needed,
-            2 => needed + 1,
-            _ => needed + random.below(50),
-        };
-        random.bytes(length)
-    })
 }

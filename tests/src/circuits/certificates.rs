@@ -1,8 +1,8 @@
 //! Certificates before they are bytes: found, swept from a given split, or made
 //! of steps that follow, in any order.
 
-use super::calls;
-use crate::model::certificate::{Certificate, Subject, HEAD, STEP};
+use super::calls::{self, Request};
+use crate::model::certificate::{Certificate, Subject, STEP};
 use crate::model::finder::{self, Finding, Lent};
 use crate::model::netlist::Netlist;
 use crate::model::window::{Knowledge, Learnt, Line, Step, Window};
@@ -43,11 +43,11 @@ impl Argument {
 /// The certificate that the model's finder writes, if it finds one. In a trap
 /// it may be one that is not acceptable.
 pub fn found(trap: Option<Trap>, netlist: &[u8], fault: Fault, b: u8, f: u8) -> Option<Vec<u8>> {
-    let places = calls::node_count(netlist) * (usize::from(b) + usize::from(f) + 1);
-    let mut certificate = vec![0; HEAD + 2 * STEP * places];
+    let lengths = Request { fault, b, f }.slice_lengths(calls::node_count(netlist));
+    let [mut first, mut second, mut certificate] = lengths.map(|length| vec![0; length]);
     let lent = Lent {
-        first: &mut vec![0; places],
-        second: &mut vec![0; places],
+        first: &mut first,
+        second: &mut second,
         certificate: &mut certificate,
     };
     match finder::find_in_trap(trap, netlist, fault, b, f, lent) {

@@ -1,5 +1,7 @@
 //! A netlist before it is bytes. A draft need not be sound.
 
+use crate::model::kind;
+
 /// A node to be: its kind and the sources of its pins.
 #[derive(Clone, Debug)]
 pub struct Node {
@@ -22,6 +24,11 @@ impl Draft {
         Draft {
             nodes: nodes.collect(),
         }
+    }
+
+    /// Inputs alone.
+    pub fn inputs(count: usize) -> Self {
+        Draft::of(&vec![(kind::INPUT, &[][..]); count])
     }
 
     pub fn push(&mut self, kind: u8, sources: &[u16]) {

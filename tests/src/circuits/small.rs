@@ -18,7 +18,7 @@ pub fn any(random: &mut Random) -> Draft {
     }
 }
 
-/// Two to twelve nodes of any kinds; the last ones are outputs, rarely none.
+/// One to twelve nodes of any kinds; the last ones are outputs, rarely none.
 pub fn mixed(random: &mut Random) -> Draft {
     let inner = random.between(1, 9);
     let kinds = inner_kinds(random, inner);
@@ -42,7 +42,7 @@ pub fn mixed(random: &mut Random) -> Draft {
 
 /// An input through flip-flops, a gate of any two of these nodes, and outputs.
 pub fn shift_register(random: &mut Random) -> Draft {
-    let mut draft = Draft::of(&[(kind::INPUT, &[])]);
+    let mut draft = Draft::inputs(1);
     let stages = random.between(1, MOST_FLIP_FLOPS);
     for stage in 0..stages {
         draft.push(kind::FLIP_FLOP, &[stage as u16]);

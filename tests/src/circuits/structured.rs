@@ -6,7 +6,7 @@ use crate::model::kind;
 /// One of each plan, with this many nodes (at least 2).
 pub fn all(nodes: u16) -> Vec<Draft> {
     vec![
-        alike(nodes, kind::INPUT, |_| vec![]),
+        Draft::inputs(nodes.into()),
         alike(nodes, kind::FLIP_FLOP, |node| vec![node]),
         // A shift register, one that runs backwards, and one closed to a ring.
         alike(nodes, kind::FLIP_FLOP, |node| vec![node.saturating_sub(1)]),
@@ -41,6 +41,18 @@ pub fn with_outputs(nodes: u16) -> Vec<Draft> {
     ]
 }
 
+/// A flip-flop fed by itself, an AND of it twice, a chain and an output (at
+/// least 4 nodes): the flip-flop settles the value of every line, and a 1 at a
+/// pin of the AND is redundant.
+pub fn settled_chain(nodes: u16) -> Draft {
+    let mut draft = Draft::of(&[(kind::FLIP_FLOP, &[0]), (kind::AND, &[0, 0])]);
+    for node in 2..nodes - 1 {
+        draft.push(kind::NOT, &[node - 1]);
+    }
+    draft.push(kind::OUTPUT, &[nodes - 2]);
+    draft
+}
+
 fn alike(nodes: u16, kind: u8, sources: impl Fn(u16) -> Vec<u16>) -> Draft {
     let mut draft = Draft::default();
     for node in 0..nodes {
@@ -50,8 +62,7 @@ fn alike(nodes: u16, kind: u8, sources: impl Fn(u16) -> Vec<u16>) -> Draft {
 }
 
 fn behind_input(nodes: u16, make: impl Fn(u16) -> (u8, Vec<u16>)) -> Draft {
-    let mut draft = Draft::default();
-    draft.push(kind::INPUT, &[]);
+    let mut draft = Draft::inputs(1);
     for node in 1..nodes {
         let (kind, sources) = make(node);
         draft.push(kind, &sources);
@@ -62,8 +73,7 @@ fn behind_input(nodes: u16, make: impl Fn(u16) -> (u8, Vec<u16>)) -> Draft {
 /// A binary counter: stages of a flip-flop, its toggle and its carry, counted
 /// up by an input. Nodes that make no whole stage are outputs of the carry.
 fn counter(nodes: u16) -> Draft {
-    let mut draft = Draft::default();
-    draft.push(kind::INPUT, &[]);
+    let mut draft = Draft::inputs(1);
     let mut carry = 0;
     let mut node = 1;
     while node + 2 < nodes {
@@ -83,7 +93,7 @@ fn counter(nodes: u16) -> Draft {
 /// behind the gate that joins the ends of the one before. A pin of that gate is
 /// redundant as soon as both ends show what came in together.
 fn twin_pipeline(nodes: u16) -> Draft {
-    let mut draft = Draft::of(&[(kind::INPUT, &[])]);
+    let mut draft = Draft::inputs(1);
     let (mut source, mut next, mut depth) = (0, 1, 1);
     while next + 2 * depth + 2 <= nodes {
         for start in [next, next + depth] {
@@ -114,7 +124,7 @@ fn feedback_register(nodes: u16) -> Draft {
 /// Stages of a flip-flop that stays at 1, its OR with the stage before, and an
 /// AND of the two, of which the OR's pin is redundant.
 fn sticky_stages(nodes: u16) -> Draft {
-    let mut draft = Draft::of(&[(kind::INPUT, &[])]);
+    let mut draft = Draft::inputs(1);
     let (mut source, mut next) = (0, 1);
     while next + 3 < nodes {
         draft.push(kind::FLIP_FLOP, &[next + 1]);
@@ -128,10 +138,7 @@ fn sticky_stages(nodes: u16) -> Draft {
 /// Inputs, and a chain of ANDs that is 1 only if all of them are.
 fn wide_comparison(nodes: u16) -> Draft {
     let inputs = nodes / 2;
-    let mut draft = Draft::default();
-    for _ in 0..inputs {
-        draft.push(kind::INPUT, &[]);
-    }
+    let mut draft = Draft::inputs(inputs.into());
     draft.push(kind::BUFFER, &[0]);
     for input in 1..inputs {
         draft.push(kind::AND, &[inputs + input - 1, input]);

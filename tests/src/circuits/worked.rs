@@ -1,24 +1,25 @@
 //! The paper's bench circuits and their certificates, written out.
 
-use super::Draft;
+/// An AND of one input twice, and its output.
+pub const AND_TWICE: [u8; 25] = [
+    3, 0, 3, 0, // three nodes, three pins
+    0, 0, 0, 0, 0, // input
+    5, 0, 0, 2, 0, // AND, pins 0 and 1
+    1, 2, 0, 1, 0, // output, pin 2
+    0, 0, 0, 0, 1, 0, // sources 0, 0 and 1
+];
 
 /// a; flip-flops b(a), c(a); AND(b, c); outputs of nodes 3 and 2.
-pub fn p1() -> Vec<u8> {
-    Draft::of(&[
-        (0, &[]),
-        (2, &[0]),
-        (2, &[0]),
-        (5, &[1, 2]),
-        (1, &[3]),
-        (1, &[2]),
-    ])
-    .to_bytes()
-}
-
-/// An AND of one input twice, and its output.
-pub fn and_twice() -> Vec<u8> {
-    Draft::of(&[(0, &[]), (5, &[0, 0]), (1, &[1])]).to_bytes()
-}
+pub const P1: [u8; 46] = [
+    6, 0, 6, 0, // six nodes, six pins
+    0, 0, 0, 0, 0, // a
+    2, 0, 0, 1, 0, // b
+    2, 1, 0, 1, 0, // c
+    5, 2, 0, 2, 0, // AND
+    1, 4, 0, 1, 0, // output of node 3
+    1, 5, 0, 1, 0, // output of node 2
+    0, 0, 0, 0, 1, 0, 2, 0, 3, 0, 2, 0, // sources
+];
 
 /// A flip-flop fed by itself, alone.
 pub const SELF_FED: [u8; 11] = [1, 0, 1, 0, 2, 0, 0, 1, 0, 0, 0];

@@ -4,6 +4,7 @@ use leverpeach_tests::circuits::{calls, sound};
 use leverpeach_tests::model::{self, Stepped};
 use leverpeach_tests::native::{self, FaultBytes};
 use leverpeach_tests::random::Random;
+use std::fmt::Debug;
 use std::hint::black_box;
 
 /// Nodes of all circuits of one size together. It is the same for each size,
@@ -22,23 +23,23 @@ struct Circuit {
 
 /// Circuits of one size, the same ones each time they are made.
 #[derive(PartialEq)]
-pub struct Work {
+pub struct Circuits {
     circuits: Vec<Circuit>,
 }
 
-impl Work {
+impl Circuits {
     pub fn new(nodes: usize, pins: usize) -> Self {
         let mut random = Random::new(nodes as u64);
         let circuits = (0..NODES_IN_ALL / nodes).map(|_| {
             let draft = sound::of_size(&mut random, nodes, pins);
             Circuit {
                 netlist: draft.to_bytes(),
-                fault: calls::fault(&mut random, &draft),
+                fault: calls::fault_bytes(&mut random, &draft),
                 first: calls::first(&mut random, &draft),
                 second: vec![0; nodes],
             }
         });
-        Work {
+        Circuits {
             circuits: circuits.collect(),
         }
     }
@@ -61,28 +62,26 @@ impl Work {
     }
 
     pub fn simulate_with_library(&mut self) {
-        for circuit in &mut self.circuits {
-            let Circuit {
-                netlist,
-                fault,
-                first,
-                second,
-            } = circuit;
-            let answer = native::simulate(black_box(netlist), *fault, first, second);
-            assert_eq!(answer, 0);
-        }
+        self.simulate_with(native::simulate, 0);
     }
 
     pub fn simulate_with_model(&mut self) {
+        let step = |netlist: &[u8], fault: FaultBytes, first: &mut [u8], second: &mut [u8]| {
+            model::simulate(netlist, fault.meaning(), first, second)
+        };
+        self.simulate_with(step, Stepped::Done);
+    }
+
+    /// Steps every circuit once; each gets this answer.
+    fn simulate_with<A: Debug + PartialEq>(
+        &mut self,
+        step: impl Fn(&[u8], FaultBytes, &mut [u8], &mut [u8]) -> A,
+        done: A,
+    ) {
         for circuit in &mut self.circuits {
-            let Circuit {
-                netlist,
-                fault,
-                first,
-                second,
-            } = circuit;
-            let stepped = model::simulate(black_box(netlist), fault.meaning(), first, second);
-            assert_eq!(stepped, Stepped::Done);
+            let netlist = black_box(&circuit.netlist);
+            let (first, second) = (&mut circuit.first, &mut circuit.second);
+            assert_eq!(step(netlist, circuit.fault, first, second), done);
         }
     }
 }
