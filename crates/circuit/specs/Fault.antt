@@ -22,6 +22,11 @@ noneStuck = record { node = λ n. 2; pin = λ n k. 2 }
 abbrev pub siteOf : ℕ → Site
 siteOf b = cond (eqb b 255) Whole (Pin b)
 
+-- the byte that a site is written with
+abbrev pub siteByte : Site → ℕ
+siteByte Whole = 255
+siteByte (Pin k) = k
+
 -- the site is the node itself; the site is pin k
 abbrev pub isWhole : Site → Bool
 isWhole Whole = true

@@ -2,7 +2,7 @@
 ghost use mathlib.Core.Path.{_≡_};
 ghost use Rattle.values.specs.Value.{stuckOr};
 ghost use Rattle.circuit.specs.Netlist.{netOf};
-ghost use Rattle.circuit.specs.Fault.{siteOf, isWhole, isPin, siteExists, faultExists, circuitExists, linesIn};
+ghost use Rattle.circuit.specs.Fault.{siteOf, siteByte, isWhole, isPin, siteExists, faultExists, circuitExists, linesIn};
 use crate::netlist::length_of;
 use crate::netlist::node_count;
 
@@ -36,6 +36,16 @@ pub fn site_of(written: u8) -> Site
         return Site::Whole;
     }
     Site::Pin(written)
+}
+
+// The byte that a site is written with.
+pub fn site_byte(site: Site) -> u8
+    ensures { λ r. ⌜ r ≡ siteByte site ⌝ }
+{
+    match site {
+        Site::Whole => 255,
+        Site::Pin(pin) => pin,
+    }
 }
 
 fn is_whole(site: Site) -> bool

@@ -13,8 +13,8 @@ use lib.ListN.{drop-of-length-le, length, take}
 use lib.Seq.{sets}
 use Rattle.circuit.proofs.RefusalLaws.{FirstFails, fails-here, fails-later, refusal-at, refusal-by}
 use Rattle.circuit.proofs.SoundLaws.{Facts, answered-sound, facts, refused-first, sound-size}
-use Rattle.circuit.specs.Answer.{Answer, Test, answered, refusal, refused}
-use Rattle.circuit.specs.Fault.{faultExists}
+use Rattle.circuit.specs.Answer.{Answer, Test, answered, refused}
+use Rattle.circuit.specs.Fault.{faultExists, siteByte}
 use Rattle.circuit.specs.Netlist.{Net, netOf, nodeCount, pinCount, readerTests, reading, sound}
 use Rattle.circuit.specs.declared.fault.Fault.{Fault}
 use Rattle.circuit.specs.declared.fault.Site.{Site}
@@ -23,7 +23,7 @@ use Rattle.finder.proofs.FindingLaws.{all-passed, finding-unsound, short-certif
 use Rattle.finder.proofs.FirstLaws.{split-some}
 use Rattle.finder.proofs.FoundLaws.{pins-few, site-few}
 use Rattle.finder.specs.Finder.{FinderCall, FinderOutcome, answerFor, bytesFor, certificateFor, finderCall, finding, firstSplit, searched, split, turnedBack, written}
-use Rattle.finder.specs.Written.{certificateOf, headBytes, siteByte}
+use Rattle.finder.specs.Written.{certificateOf, headBytes}
 use Rattle.finder.specs.declared.split.Split.{Split}
 use Rattle.listing.proofs.FaultListLaws.{StageExists, exists-node, exists-stuck, faults-few, first-exists, first-rest, listLeft, rest-step, stage-exists}
 use Rattle.listing.proofs.ReportTestLaws.{cut-same, report-read, report-short, report-windowed}
