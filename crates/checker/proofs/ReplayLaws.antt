@@ -23,7 +23,8 @@ use Rattle.circuit.proofs.ClockLaws.{Ordered}
 use Rattle.circuit.specs.Fault.{StuckLines}
 use Rattle.values.specs.Lists.{at}
 use Rattle.circuit.specs.Netlist.{Net}
-use Rattle.values.specs.Value.{differ, isUnknown, stuckOr}
+use Rattle.values.proofs.ValueLaws.{unknown-free}
+use Rattle.values.specs.Value.{differ, isUnknown}
 
 -- the steps that are left in a run from position i on
 abbrev pub stepsLeft : List ℕ → ℕ → List Step
@@ -142,11 +143,6 @@ module _ (net : Net) (o : Ordered net) (S : ℕ → StuckLines) (W : ℕ) where
       unfolding enter entering
       enter-is q z = ap entering z
 
-      free : (h x v : ℕ) → isUnknown (stuckOr h x) ≡ true → v ≡ stuckOr h v
-      free zero x v z = absurd (let y : _≡_ {A = ℕ} 0 1 = cc in omega arith)
-      free (suc zero) x v z = absurd (let y : _≡_ {A = ℕ} 0 1 = cc in omega arith)
-      free (suc (suc h)) x v z = refl
-
       went-on : replay net S W ss b₀ ≡ replay net S W rest (enter net S (r .branch) s)
       unfolding next
       went-on = r .replays ∙ step-is (r .branch) true (λ i. not (sym (r .same-closed) i) && (sym (same-follows r) ∙ e) i)
@@ -163,7 +159,7 @@ module _ (net : Net) (o : Ordered net) (S : ℕ → StuckLines) (W : ℕ) where
             replays = went-on;
             holds = subst (λ (b : Branch). Holds net S W (b .values) (set bytes (s .frame * net .size + s .node) (s .value))) (sym (enter-is true z))
                 (holds-set net S W (s .node) (s .frame) (s .value) (r .branch .values) bytes (f .node-within) (f .frame-within) full (r .full)
-                (free (held net S (s .node) (s .frame)) (getD (r .branch .values) (s .frame * net .size + s .node) 2) (s .value) z) (r .holds));
+                (unknown-free (held net S (s .node) (s .frame)) (getD (r .branch .values) (s .frame * net .size + s .node) 2) (s .value) z) (r .holds));
             same-closed = sym (ap (λ (b : Branch). b .closed) (enter-is true z));
             full = ap (λ (b : Branch). length (b .values)) (enter-is true z) ∙ simp length-set (r .full);
           }

@@ -2,7 +2,7 @@
 use mathlib.Core.Bool.{Bool, false, true}
 use mathlib.Core.List.{List, [], _++_, _∷_}
 use mathlib.Core.Path.{_∙_, _≡_, refl, subst, sym}
-use Prim.Native.Nat.{_*_, _+_, _<_, suc, zero, ℕ}
+use Prim.Native.Nat.{_*_, _+_, _<_, ℕ}
 use native.Mathlib.Omega.{arith}
 use lib.ListN.{getD, replicate, set}
 use Rattle.checker.proofs.HoldLaws.{place-frame, place-node}
@@ -12,16 +12,11 @@ use Rattle.checker.specs.Window.{Branch, begin, enter, held, known}
 use Rattle.checker.specs.declared.step.Step.{Step}
 use Rattle.circuit.proofs.ClockLaws.{Ordered}
 use Rattle.values.proofs.GateLaws.{Refines, stuckOr-refines}
-use Rattle.values.proofs.ListLaws.{set-either}
+use Rattle.values.proofs.ListLaws.{replicate-at, set-either}
 use Rattle.values.proofs.ValueLaws.{differing, known-is}
 use Rattle.circuit.specs.Fault.{StuckLines}
 use Rattle.circuit.specs.Netlist.{Net}
 use Rattle.values.specs.Value.{differ, isUnknown}
-
-getD-unknown : (m i : ℕ) → _≡_ {A = ℕ} (getD (replicate m 2) i 2) 2
-getD-unknown zero i = refl
-getD-unknown (suc m) zero = refl
-getD-unknown (suc m) (suc i) = getD-unknown m i
 
 -- the concluded values l, frame by frame, are in K
 abbrev pub ListIn : Net → (ℕ → ℕ → ℕ) → List ℕ → Type 0
@@ -88,5 +83,5 @@ module _ (net : Net) (o : Ordered net) (S : ℕ → StuckLines) (W : ℕ) (K : �
       go false q =
           record {
             still-open = refl;
-            values-in = set-in net K (replicate (net .size * W) 2) n t x (λ m u p. rw getD-unknown (λ k. absurd (omega arith))) h (λ _. sym e);
+            values-in = set-in net K (replicate (net .size * W) 2) n t x (λ m u p. rw replicate-at (λ k. absurd (omega arith))) h (λ _. sym e);
           }

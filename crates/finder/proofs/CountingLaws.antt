@@ -10,6 +10,7 @@ use lib.Dec.{eqb}
 use lib.ListN.{getD, length, length-append, length-replicate, length-set, replicate, set}
 use borrow.Author.Tests.{eqb-false, eqb-true}
 use Rattle.circuit.proofs.ClockLaws.{Ordered}
+use Rattle.values.proofs.ListLaws.{replicate-at}
 use Rattle.values.proofs.ValueLaws.{known-low}
 use Rattle.circuit.specs.Fault.{StuckLines}
 use Rattle.circuit.specs.Netlist.{Net}
@@ -42,11 +43,6 @@ stuck-unknown : (s v : ℕ) → isUnknown (stuckOr s v) ≡ true → isUnknown v
 stuck-unknown zero v e = absurd (false≢true e)
 stuck-unknown (suc zero) v e = absurd (false≢true e)
 stuck-unknown (suc (suc s)) v e = e
-
-getD-unknown : (m i : ℕ) → isUnknown (getD (replicate m 2) i 2) ≡ true
-getD-unknown zero i = refl
-getD-unknown (suc m) zero = refl
-getD-unknown (suc m) (suc i) = getD-unknown m i
 
 -- a branch at its end: a contradiction was met, or one more sweep changes nothing
 unfoldable pub Ended : Net → (ℕ → StuckLines) → ℕ → Branch → Type 0
@@ -117,7 +113,7 @@ module _ (net : Net) (o : Ordered net) (S : ℕ → StuckLines) (W : ℕ) where
       go false =
           record {
             full = length-set l place v ∙ length-replicate (net .size * W) 2;
-            total = omega (arith, unknowns-all (net .size * W), unknowns-set l place v 2 low (getD-unknown (net .size * W) place) k);
+            total = omega (arith, unknowns-all (net .size * W), unknowns-set l place v 2 low (ap isUnknown (replicate-at 2 (net .size * W) place)) k);
           }
 
   -- at most as many steps as there are places

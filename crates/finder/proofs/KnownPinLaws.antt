@@ -20,9 +20,9 @@ use Rattle.values.specs.Lists.{at}
 use Rattle.circuit.specs.Netlist.{Net}
 use Rattle.values.specs.Value.{differ, isUnknown, neg, stuckOr}
 use Rattle.checker.specs.Window.{conclusion, outputConclusion, pinConclusion, pinFrame}
-use Rattle.finder.proofs.StillLaws.{bytes-count, line-moves, line-unmoved}
-use Rattle.finder.proofs.WorkLaws.{line-closed, line-is, line-old, line-silent, made, picked}
-use Rattle.finder.specs.Sweeps.{tryLine}
+use Rattle.finder.proofs.StillLaws.{bytes-count, line-is, line-moves, line-unmoved, tried}
+use Rattle.finder.proofs.WorkLaws.{line-closed, line-old, line-silent, made}
+use Rattle.finder.specs.Sweeps.{saysNothing, tryLine}
 use Rattle.finder.specs.Work.{Work, inBytes, takeIn}
 
 other : (x w : ℕ) → x < 2 → w < 2 → (x ≡ w → ⊥) → x ≡ neg w
@@ -105,7 +105,7 @@ module _ (net : Net) (S : ℕ → StuckLines) where
   -- where the output's line is no step, the gate agrees with what is known of the output
   output-agrees : (n t : ℕ) (w : Work) → w .closed ≡ false → tryLine (inBytes (net .size)) net S n t 0 w .steps ≡ w .steps
       → differ (made net S n t 0 w .value) (at (w .known) (t * net .size + n)) ≡ false
-  unfolding picked takeIn conclusion
+  unfolding takeIn conclusion saysNothing
   output-agrees n t w c e = unknown-or (isUnknown g) refl
     where
       g : ℕ
@@ -114,8 +114,8 @@ module _ (net : Net) (S : ℕ → StuckLines) where
       o : ℕ
       o = at (w .known) (t * net .size + n)
 
-      test : (b : Bool) → (isUnknown g || eqb o g) ≡ b → tryLine (inBytes (net .size)) net S n t 0 w ≡ picked net S n t 0 w b
-      test b q = line-is net S n t 0 w b (ap (λ (z : Bool). z || (isUnknown g || eqb o g)) c ∙ q)
+      test : (b : Bool) → (isUnknown g || eqb o g) ≡ b → tryLine (inBytes (net .size)) net S n t 0 w ≡ tried (inBytes (net .size)) net S n t 0 w b
+      test b q = line-is (inBytes (net .size)) net S n t 0 w b (ap (λ (z : Bool). z || (isUnknown g || eqb o g)) c ∙ q)
 
       same-or : isUnknown g ≡ false → (b : Bool) → eqb o g ≡ b → differ g o ≡ false
       same-or u true q = ap (differ g) (eqb-true o g q) ∙ differ-same g

@@ -10,8 +10,7 @@ use Rattle.circuit.specs.Netlist.{Net}
 use Rattle.circuit.specs.declared.fault.Fault.{Fault}
 use Rattle.finder.specs.Finder.{split, splitCloses}
 use Rattle.finder.specs.Work.{KeptOpen, Noted, NotedStayOpen, noteAt}
-use Rattle.finder.specs.declared.split.Split.{Split}
-use Rattle.values.proofs.ListLaws.{set-either, zeros-at}
+use Rattle.values.proofs.ListLaws.{replicate-at, set-either}
 use Rattle.values.specs.Lists.{at}
 
 -- a byte with the note x in place of its own
@@ -39,7 +38,7 @@ unfolding NotedStayOpen
 notes-guesses net f F l low s h g e = absurd (omega (arith, low (s .frame * net .size + s .node)))
 
 pub notes-empty : (net : Net) (f : Fault) (F m : ℕ) → NotedStayOpen net f F (replicate m 0)
-notes-empty net f F m = notes-guesses net f F (replicate m 0) (λ p. omega (arith, zeros-at m p))
+notes-empty net f F m = notes-guesses net f F (replicate m 0) (λ p. omega (arith, replicate-at 0 m p))
 
 -- A set whose values stay open is noted.
 pub notes-set : (net : Net) (f : Fault) (F c : ℕ) (known before after : List ℕ) → KeptOpen net f F c known → ((place : ℕ) → Noted known c before after place)

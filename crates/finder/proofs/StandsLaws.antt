@@ -13,7 +13,8 @@ use Rattle.circuit.proofs.SoundLaws.{facts, sound-size}
 use Rattle.circuit.specs.Fault.{StuckLines, linesOf}
 use Rattle.values.specs.Lists.{at}
 use Rattle.circuit.specs.Netlist.{Net, netOf, reading, sound}
-use Rattle.values.specs.Value.{differ, isUnknown, stuckOr}
+use Rattle.values.proofs.ValueLaws.{unknown-free}
+use Rattle.values.specs.Value.{differ, isUnknown}
 use Rattle.circuit.specs.declared.fault.Fault.{Fault}
 use Rattle.checker.proofs.Agreement.{conclusion-agree}
 use Rattle.checker.proofs.HoldLaws.{begin-closed-in, begin-holds-in, held-length, holds-set, place-within}
@@ -40,12 +41,6 @@ module _ (net : Net) (o : Ordered net) (S : ℕ → StuckLines) (W : ℕ) (run :
     pub same-closed : w .closed ≡ b .closed
     pub same-count : w .steps ≡ length (b .steps)
     pub same-run : w .run ≡ sets run 0 (runBytes (b .steps))
-
-  -- a value that is stored where nothing is held
-  free : (h x v : ℕ) → isUnknown (stuckOr h x) ≡ true → v ≡ stuckOr h v
-  free zero x v z = absurd (let y : _≡_ {A = ℕ} 0 1 = cc in omega arith)
-  free (suc zero) x v z = absurd (let y : _≡_ {A = ℕ} 0 1 = cc in omega arith)
-  free (suc (suc h)) x v z = refl
 
   -- ---- a step
 
@@ -78,7 +73,7 @@ module _ (net : Net) (o : Ordered net) (S : ℕ → StuckLines) (W : ℕ) (run :
     unfolding entering taking slice known
     by-test true z =
         record {
-          holds = holds-set net S W (s .node) (s .frame) (s .value) (b .values) (w .known) hn ht (r .full) (r .wide) (free (held net S (s .node) (s .frame)) (getD (b .values) (s .frame * net .size + s .node) 2) (s .value) z) (r .holds);
+          holds = holds-set net S W (s .node) (s .frame) (s .value) (b .values) (w .known) hn ht (r .full) (r .wide) (unknown-free (held net S (s .node) (s .frame)) (getD (b .values) (s .frame * net .size + s .node) 2) (s .value) z) (r .holds);
           full = length-set (w .known) (s .frame * net .size + s .node) (s .value) ∙ r .full;
           wide = length-set (b .values) (s .frame * net .size + s .node) (s .value) ∙ r .wide;
           same-closed = refl;

@@ -18,7 +18,11 @@ pub or-right : (a b : Bool) → (a || b) ≡ true → a ≡ false → b ≡ true
 or-right true b e h = absurd (true≢false h)
 or-right false b e h = e
 
--- a disjunction with a false first part
+-- a disjunction with a true second part, and with a false first one
+pub or-second : (a b : Bool) → b ≡ true → (a || b) ≡ true
+or-second true b e = refl
+or-second false b e = e
+
 pub or-false : (a b : Bool) → a ≡ false → (a || b) ≡ b
 or-false a b e = rw e
 

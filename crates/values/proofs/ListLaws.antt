@@ -12,7 +12,7 @@ use borrow.Author.Tests.{le-ltb, lt-ltb, ltb-false, ltb-true}
 use lib.Dec.{ltb}
 use lib.ListN.{List·getD-append, List·getD-eq-default, drop, drop-of-length-le, getD, length, length-append, length-drop, length-set, length-take, replicate, set, take}
 use lib.Seq.{append-snoc, drop-cons, ext-getD, getD-at, getD-drop, getD-set-other, getD-set-same, getD-take, length-take-le, set-at, take-all}
-use Rattle.values.proofs.BoolLaws.{and-left, and-right}
+use Rattle.values.proofs.BoolLaws.{and-left, and-right, or-second}
 use Rattle.values.specs.Lists.{any, at, build, every, indexed, rewritten, table}
 
 -- one turn of a loop that tests by rising index
@@ -62,10 +62,11 @@ take-inside l i m h = sym (getD-take i l m 0 h)
 pub take-outside : (l : List ℕ) (i m : ℕ) → i ≤ m → 0 ≡ at (take i l) m
 take-outside l i m h = sym (List·getD-eq-default (take i l) 0 (simp length-take (omega (arith, min-le-left i (length l)))))
 
-pub zeros-at : (n m : ℕ) → at (replicate n 0) m ≡ 0
-zeros-at zero m = refl
-zeros-at (suc n) zero = refl
-zeros-at (suc n) (suc m) = zeros-at n m
+-- a list of equal elements, where a place past the end counts as one of them too
+pub replicate-at : (v n m : ℕ) → getD (replicate n v) m v ≡ v
+replicate-at v zero m = refl
+replicate-at v (suc n) zero = refl
+replicate-at v (suc n) (suc m) = replicate-at v n m
 
 -- where some number below n passes, here is one
 pub any-found : (f : ℕ → Bool) (n : ℕ) → any f n ≡ true → (i : ℕ) × (i < n) × (f i ≡ true)
@@ -82,11 +83,7 @@ pub any-by : (f : ℕ → Bool) (n i : ℕ) → i < n → f i ≡ true → any f
 unfolding any
 any-by f zero i h e = absurd (not-suc-le-zero h)
 any-by f (suc n) i h e =
-    ⊎-elim (λ q. or-true (any f n) (f n) (subst (λ (k : ℕ). f k ≡ true) q e)) (λ l. rw (any-by f n i l e)) (eq-or-lt-of-le (le-of-suc-le-suc h))
-  where
-    or-true : (a b : Bool) → b ≡ true → (a || b) ≡ true
-    or-true true b q = refl
-    or-true false b q = q
+    ⊎-elim (λ q. or-second (any f n) (f n) (subst (λ (k : ℕ). f k ≡ true) q e)) (λ l. rw (any-by f n i l e)) (eq-or-lt-of-le (le-of-suc-le-suc h))
 
 -- tests that agree below n
 pub any-same : (f g : ℕ → Bool) (n : ℕ) → ((i : ℕ) → i < n → f i ≡ g i) → any f n ≡ any g n

@@ -16,6 +16,12 @@ stuck-free zero v h = absurd (omega arith)
 stuck-free (suc zero) v h = absurd (omega arith)
 stuck-free (suc (suc s)) v h = refl
 
+-- a line that is unknown is not stuck, so it has any value of its own
+pub unknown-free : (s v w : ℕ) → isUnknown (stuckOr s v) ≡ true → w ≡ stuckOr s w
+unknown-free zero v w e = absurd (false≢true e)
+unknown-free (suc zero) v w e = absurd (false≢true e)
+unknown-free (suc (suc s)) v w e = refl
+
 pub neg-unknown : (v : ℕ) → 2 ≤ v → neg v ≡ 2
 neg-unknown zero h = absurd (omega arith)
 neg-unknown (suc zero) h = absurd (omega arith)
