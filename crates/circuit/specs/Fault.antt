@@ -10,6 +10,9 @@ use Rattle.circuit.specs.declared.fault.Fault.{Fault}
 use Rattle.circuit.specs.declared.fault.Site.{Site}
 use Rattle.circuit.specs.declared.fault.Site.the-variants.{Pin, Whole}
 
+abbrev pub fault : ℕ → Site → ℕ → Fault
+fault n s u = record { node = n; site = s; stuck = u }
+
 -- the stuck value of a node, and of pin k of a node; 2 or more where the line is not stuck
 pub record StuckLines : Type 0 where
   pub node : ℕ → ℕ
