@@ -5,14 +5,14 @@ use Prim.Native.Nat.{_*_, _+_, ℕ}
 use lib.Dec.{eqb}
 use Rattle.circuit.specs.Answer.{Answer, Outcome, answered, refused}
 use Rattle.values.specs.Lists.{at}
-use Rattle.circuit.specs.Fault.{siteOf}
+use Rattle.circuit.specs.Fault.{fault, siteOf}
 use Rattle.circuit.specs.declared.fault.Circuit.{Circuit}
 use Rattle.circuit.specs.declared.fault.Fault.{Fault}
 use Rattle.finder.specs.Finder.{FinderOutcome}
 
 -- a fault; site 255 is the node itself
 abbrev pub siteFault : ℕ → ℕ → ℕ → Fault
-siteFault node site u = record { node = node; site = siteOf site; stuck = u }
+siteFault node site u = fault node (siteOf site) u
 
 -- faulted 0 means no fault
 abbrev pub circuitOf : ℕ → ℕ → ℕ → ℕ → Circuit

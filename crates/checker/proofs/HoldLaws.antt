@@ -12,14 +12,16 @@ use borrow.Author.Tests.{leb-true, ltb-true}
 use lib.ListN.{getD, getD-replicate, length, length-replicate, length-set, replicate, set}
 use lib.Seq.{getD-set-other, getD-set-same}
 use Rattle.checker.proofs.RelationLaws.{absent-from, present-below}
-use Rattle.checker.specs.Window.{Branch, Entered, Holds, begin, beginAt, beginIn, entered, held, holdFrames, known, presentBelow}
+use Rattle.checker.proofs.WindowLaws.{begin-cases, enter-cases}
+use Rattle.checker.specs.declared.step.Step.{Step}
+use Rattle.checker.specs.Window.{Branch, Entered, Holds, begin, beginAt, beginIn, enter, enterAt, entered, held, holdFrames, known, presentBelow}
 use Rattle.values.proofs.BoolLaws.{and-left, and-right}
 use Rattle.circuit.proofs.FaultLaws.{other-nodes}
-use Rattle.values.proofs.ValueLaws.{stuck-free, stuck-known}
+use Rattle.values.proofs.ValueLaws.{stuck-free, stuck-known, unknown-free}
 use Rattle.circuit.specs.Fault.{StuckLines, faultExists, isWhole, linesOf, noneStuck, siteExists}
 use Rattle.values.specs.Lists.{at}
 use Rattle.circuit.specs.Netlist.{Net}
-use Rattle.values.specs.Value.{differ, stuckOr}
+use Rattle.values.specs.Value.{differ, isUnknown, stuckOr}
 use Rattle.circuit.specs.declared.fault.Fault.{Fault}
 
 -- the place of a node at a frame lies in the window, and no other node and frame has it
@@ -137,27 +139,41 @@ module _ (net : Net) where
       go (yes z) (no w) = apart (λ q. w (place-node N n t m u hn hm q))
       go (no z) d = apart (λ q. z (place-frame N n t m u hn hm q))
 
-  -- a branch's start, by whether the split contradicts a held value
+  -- a branch, and a work slice that is a window of W frames, in which the same is known
+  module _ (S : ℕ → StuckLines) (W : ℕ) where
+    pub record InSlice (b : Branch) (e : Entered) : Type 0 where
+      pub holds : Holds net S W (b .values) (e .bytes)
+      pub full : length (e .bytes) ≡ net .size * W
+      pub wide : length (b .values) ≡ net .size * W
+      pub same-closed : e .closed ≡ b .closed
+
+    -- a step that is entered into both
+    module _ (b : Branch) (e : Entered) (r : InSlice b e) (s : Step) (hn : s .node < net .size) (ht : s .frame < W) where
+      in-bytes : Bool → Entered
+      in-bytes q = cond q (entered false (set (e .bytes) (s .frame * net .size + s .node) (s .value))) (entered true (e .bytes))
+
+      by-test : {x : Branch} (q : Bool) → isUnknown (known net S (b .values) (s .node) (s .frame)) ≡ q → InSlice x (in-bytes q)
+          → InSlice x (enterAt (e .bytes) (s .frame * net .size + s .node) (s .value))
+      unfolding Holds in-bytes
+      by-test {x} q z = subst (λ (y : Bool). InSlice x (in-bytes y)) (sym (ap isUnknown (r .holds (s .node) (s .frame) hn ht) ∙ z))
+
+      pub enter-in-slice : InSlice (enter net S b s) (enterAt (e .bytes) (s .frame * net .size + s .node) (s .value))
+      unfolding in-bytes known
+      enter-in-slice =
+          enter-cases net S (λ x. InSlice x (enterAt (e .bytes) (s .frame * net .size + s .node) (s .value))) b s
+          (λ z.
+          by-test true z
+          (record {
+            holds = holds-set S W (s .node) (s .frame) (s .value) (b .values) (e .bytes) hn ht (r .full) (r .wide)
+                (unknown-free (held net S (s .node) (s .frame)) (getD (b .values) (s .frame * net .size + s .node) 2) (s .value) z) (r .holds);
+            full = length-set (e .bytes) (s .frame * net .size + s .node) (s .value) ∙ r .full;
+            wide = length-set (b .values) (s .frame * net .size + s .node) (s .value) ∙ r .wide;
+            same-closed = refl;
+          }))
+          (λ z. by-test false z (record { holds = r .holds; full = r .full; wide = r .wide; same-closed = refl }))
+
+  -- a branch's start
   module _ (S : ℕ → StuckLines) (W n t v : ℕ) where
-    started : Bool → Branch
-    started b =
-        elim b [
-          | true ↦ record { values = replicate (net .size * W) 2; steps = []; closed = true }
-          | false ↦ record { values = set (replicate (net .size * W) 2) (t * net .size + n) v; steps = []; closed = false }
-        ]
-
-    begin-is : (b : Bool) → differ (known net S [] n t) v ≡ b → begin net S W n t v ≡ started b
-    unfolding begin started
-    begin-is b e = ap started e
-
-    pub begin-closed : differ (known net S [] n t) v ≡ true → begin net S W n t v ≡ record { values = replicate (net .size * W) 2; steps = []; closed = true }
-    unfolding started
-    begin-closed e = begin-is true e
-
-    pub begin-open : differ (known net S [] n t) v ≡ false → begin net S W n t v ≡ record { values = set (replicate (net .size * W) 2) (t * net .size + n) v; steps = []; closed = false }
-    unfolding started
-    begin-open e = begin-is false e
-
     -- nothing but held values is known at the start
     pub start-known : n < net .size → t < W → known net S (replicate (net .size * W) 2) n t ≡ known net S [] n t
     unfolding known
@@ -195,7 +211,12 @@ module _ (net : Net) where
       begins : (beginIn (net .size) f c (net .size * W) n t v .closed ≡ begin net (presentBelow c (linesOf f)) W n t v .closed)
           × Holds net (presentBelow c (linesOf f)) W (begin net (presentBelow c (linesOf f)) W n t v .values) (beginIn (net .size) f c (net .size * W) n t v .bytes)
       unfolding Holds beginIn beginAt
-      begins = go (differ (known net S [] n t) v) refl
+      begins =
+          begin-cases net S (λ (x : Branch). both x (by-test (differ (at bytes place) v))) W n t v
+          (λ e. subst (λ (x : Bool). both (record { values = l; steps = []; closed = true }) (by-test x)) (sym (test ∙ e)) (refl, holds-frames c hc))
+          (λ e.
+          subst (λ (x : Bool). both (record { values = set l place v; steps = []; closed = false }) (by-test x)) (sym (test ∙ e))
+          (refl, holds-set S W n t v l bytes hn ht (held-length (net .size) f c l ∙ length-replicate (net .size * W) 2) (length-replicate (net .size * W) 2) (split-known S W n t v hv e) (holds-frames c hc)))
         where
           S : ℕ → StuckLines
           S = presentBelow c (linesOf f)
@@ -217,13 +238,6 @@ module _ (net : Net) where
 
           by-test : Bool → Entered
           by-test b = cond b (entered true bytes) (entered false (set bytes place v))
-
-          go : (b : Bool) → differ (known net S [] n t) v ≡ b → both (begin net S W n t v) (by-test (differ (at bytes place) v))
-          go true e = subst (λ (x : Branch). both x (by-test (differ (at bytes place) v))) (sym (begin-closed S W n t v e))
-              (subst (λ (x : Bool). both (record { values = l; steps = []; closed = true }) (by-test x)) (sym (test ∙ e)) (refl, holds-frames c hc))
-          go false e = subst (λ (x : Branch). both x (by-test (differ (at bytes place) v))) (sym (begin-open S W n t v e))
-              (subst (λ (x : Bool). both (record { values = set l place v; steps = []; closed = false }) (by-test x)) (sym (test ∙ e))
-              (refl, holds-set S W n t v l bytes hn ht (held-length (net .size) f c l ∙ length-replicate (net .size * W) 2) (length-replicate (net .size * W) 2) (split-known S W n t v hv e) (holds-frames c hc)))
 
       pub begin-closed-in : beginIn (net .size) f c (net .size * W) n t v .closed ≡ begin net (presentBelow c (linesOf f)) W n t v .closed
       begin-closed-in = begins .0

@@ -1,13 +1,14 @@
 -- Laws of a window as the code walks it: the fault's frames, places in a work slice, and a pin's conclusion test by test.
 use mathlib.Core.Bool.{Bool, _&&_, false, not, true}
-use mathlib.Core.List.{List}
+use mathlib.Core.List.{List, [], _++_, _∷_}
 use mathlib.Core.Path.{_∙_, _≡_, ap, refl, sym}
 use Prim.Native.Nat.{_*_, _+_, _-_, _<_, _≤_, suc, zero, ℕ}
 use native.Mathlib.Nat.{add-zero}
 use native.Mathlib.Omega.{arith}
-use lib.ListN.{drop, set}
+use lib.ListN.{drop, replicate, set}
 use lib.Seq.{getD-drop}
-use Rattle.checker.specs.Window.{conclusion, hasRelation, knownIn, lineFrame, lineNode, outputConclusion, pinConclusion, pinFrame}
+use Rattle.checker.specs.Window.{Branch, begin, conclusion, enter, hasRelation, known, knownIn, lineFrame, lineNode, outputConclusion, pinConclusion, pinFrame}
+use Rattle.checker.specs.declared.step.Step.{Step}
 use Rattle.values.proofs.ValueLaws.{known-low, unknown-high}
 use Rattle.circuit.specs.Clock.{pinValues}
 use Rattle.circuit.specs.Fault.{StuckLines}
@@ -112,3 +113,38 @@ pub conclusion-frame : (net : Net) (S : ℕ → StuckLines) (kn : ℕ → ℕ �
 unfolding conclusion
 conclusion-frame net S kn n t zero = refl
 conclusion-frame net S kn n t (suc k) = refl
+
+-- what holds of a branch that a step was entered into, by whether its place was unknown; and of one that begins, by whether the split
+-- contradicts a held value
+module _ (net : Net) (S : ℕ → StuckLines) (P : Branch → Type 0) where
+  pub enter-cases : (b : Branch) (s : Step)
+      → (isUnknown (known net S (b .values) (s .node) (s .frame)) ≡ true → P (record { values = set (b .values) (s .frame * net .size + s .node) (s .value); steps = b .steps ++ (s ∷ []); closed = false }))
+      → (isUnknown (known net S (b .values) (s .node) (s .frame)) ≡ false → P (record { values = b .values; steps = b .steps ++ (s ∷ []); closed = true }))
+      → P (enter net S b s)
+  unfolding enter
+  enter-cases b s new old = go (isUnknown (known net S (b .values) (s .node) (s .frame))) refl
+    where
+      go : (q : Bool) → isUnknown (known net S (b .values) (s .node) (s .frame)) ≡ q
+          → P
+          (elim q [
+            | true ↦ record { values = set (b .values) (s .frame * net .size + s .node) (s .value); steps = b .steps ++ (s ∷ []); closed = false }
+            | false ↦ record { values = b .values; steps = b .steps ++ (s ∷ []); closed = true }
+          ])
+      go true q = new q
+      go false q = old q
+
+  pub begin-cases : (W n t v : ℕ)
+      → (differ (known net S [] n t) v ≡ true → P (record { values = replicate (net .size * W) 2; steps = []; closed = true }))
+      → (differ (known net S [] n t) v ≡ false → P (record { values = set (replicate (net .size * W) 2) (t * net .size + n) v; steps = []; closed = false }))
+      → P (begin net S W n t v)
+  unfolding begin
+  begin-cases W n t v contrary fitting = go (differ (known net S [] n t) v) refl
+    where
+      go : (q : Bool) → differ (known net S [] n t) v ≡ q
+          → P
+          (elim q [
+            | true ↦ record { values = replicate (net .size * W) 2; steps = []; closed = true }
+            | false ↦ record { values = set (replicate (net .size * W) 2) (t * net .size + n) v; steps = []; closed = false }
+          ])
+      go true q = contrary q
+      go false q = fitting q

@@ -4,7 +4,7 @@ use mathlib.Core.List.{List, [], _∷_}
 use Prim.Native.Nat.{_%_, _*_, _+_, _/_, suc, zero, ℕ}
 use lib.Dec.{eqb, leb}
 use lib.ListN.{drop, length}
-use Rattle.circuit.specs.Fault.{siteOf}
+use Rattle.circuit.specs.Fault.{fault, siteOf}
 use Rattle.values.specs.Lists.{at, u16At}
 use Rattle.circuit.specs.declared.fault.Fault.{Fault}
 use Rattle.checker.specs.declared.certificate.Head.{Head}
@@ -22,7 +22,7 @@ headLength = 25
 module _ (bs : List ℕ) where
   -- fault node, site and u
   abbrev pub faultOf : Fault
-  faultOf = record { node = u16At bs 0; site = siteOf (at bs 2); stuck = at bs 3 }
+  faultOf = fault (u16At bs 0) (siteOf (at bs 2)) (at bs 3)
 
   -- what stands behind the fault: c, F, the split's node and frame, and the two pairs of offset and length, then the steps
   abbrev pub restOf : List ℕ

@@ -36,14 +36,17 @@ module _ (net : Net) (D : StuckLines) (v : ℕ → ℕ) where
   unfoldable pub pinMark : (ℕ → ℕ) → ℕ → ℕ → ℕ → ℕ
   pinMark ms n k m = siteMark (D .pin n k) (v m) (ms m)
 
+  -- the marks of a node's pins, and the values of the untouched ones
+  abbrev pub pinMarks : (ℕ → ℕ) → ℕ → List ℕ
+  pinMarks ms n = indexed (pinMark ms n) 0 (net .pins n)
+
+  abbrev pub untouchedValues : (ℕ → ℕ) → ℕ → List ℕ
+  untouchedValues ms n = indexed (λ k m. untouchedValue (pinMark ms n k m) (v m)) 0 (net .pins n)
+
   -- A node with a touched pin is touched unless its untouched pins settle its value: an untouched pin known 0 at an AND or NAND,
   -- known 1 at an OR or NOR. TraceLaws shows that these are 01's sentences, kind by kind.
   unfoldable pub gateMark : (ℕ → ℕ) → ℕ → ℕ
-  gateMark ms n =
-      elim (someMark (indexed (pinMark ms n) 0 (net .pins n))) [
-        | true ↦ mark (isUnknown (gate (net .kind n) (indexed (λ k m. untouchedValue (pinMark ms n k m) (v m)) 0 (net .pins n))))
-        | false ↦ 0
-      ]
+  gateMark ms n = elim (someMark (pinMarks ms n)) [ true ↦ mark (isUnknown (gate (net .kind n) (untouchedValues ms n))) | false ↦ 0 ]
 
   -- a flip-flop is touched one frame later than its pin: latched has the marks of the flip-flops in this frame
   unfoldable pub nodeMark : (ℕ → ℕ) → (ℕ → ℕ) → ℕ → ℕ
@@ -55,7 +58,7 @@ module _ (net : Net) (D : StuckLines) (v : ℕ → ℕ) where
 
   -- the marks of the flip-flops' pins: those of the flip-flops in the next frame
   unfoldable pub latchedMark : (ℕ → ℕ) → ℕ → ℕ
-  latchedMark ms n = cond (isFlipFlop (net .kind n)) (mark (someMark (indexed (pinMark ms n) 0 (net .pins n)))) 0
+  latchedMark ms n = cond (isFlipFlop (net .kind n)) (mark (someMark (pinMarks ms n))) 0
 
   unfoldable pub latchedMarks : (ℕ → ℕ) → List ℕ
   latchedMarks ms = table (latchedMark ms) (net .size)

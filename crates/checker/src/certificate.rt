@@ -69,8 +69,8 @@ pub fn run_length(certificate: &[u8], v: u8) -> u32
     )
 }
 
-// The certificate has its head, the first run follows it, the second run follows the first, the
-// file ends with the second, and both have whole steps.
+// The certificate has its head, the first run follows it, the second run follows the first and is
+// the certificate's end, and both have whole steps.
 pub fn layout_right(certificate: &[u8]) -> bool
     ensures { λ r. ⌜ r ≡ (leb headLength (length (now (certificate .entry))) && pairsRight (now (certificate .entry))) ⌝ }
 {

@@ -7,10 +7,10 @@ ghost use Prim.Native.Nat.{_*_, _+_, _≤_};
 ghost use lib.ListN.{drop, length, replicate, take};
 ghost use Rattle.circuit.specs.Fault.{linesIn, linesOf};
 ghost use Rattle.values.specs.Kind.{gate};
-ghost use Rattle.values.specs.Lists.{at, every, indexed};
+ghost use Rattle.values.specs.Lists.{at, every};
 ghost use Rattle.circuit.specs.Netlist.{kindOf, netOf, sourceOf};
 ghost use Rattle.checker.specs.Window.{knownIn};
-ghost use Rattle.checker.specs.Trace.{effectDies, gateMark, latchedMark, latchedMarks, latchedUntouched, marksList, nodeMark, outputUntouched, pinMark, siteMark, someMark, traced, tracing, untouchedValue};
+ghost use Rattle.checker.specs.Trace.{effectDies, gateMark, latchedMark, latchedMarks, latchedUntouched, marksList, nodeMark, outputUntouched, pinMark, pinMarks, siteMark, someMark, traced, tracing, untouchedValue, untouchedValues};
 use crate::window::place_of;
 use circuit::Circuit;
 use circuit::Fault;
@@ -66,7 +66,7 @@ fn some_pin_touched(
     limit: u16,
     node: u16,
 ) -> bool
-    ensures { λ r. ⌜ r ≡ someMark (indexed (pinMark (netOf (now (netlist .entry))) (linesIn circuit) (at (now (values .entry))) (at (take limit (now (marks .entry)))) node) 0 (netOf (now (netlist .entry)) .pins node)) ⌝ }
+    ensures { λ r. ⌜ r ≡ someMark (pinMarks (netOf (now (netlist .entry))) (linesIn circuit) (at (now (values .entry))) (at (take limit (now (marks .entry)))) node) ⌝ }
 {
     let mut pin = circuit::length_of(netlist, node);
     while 0 < pin {
@@ -106,7 +106,7 @@ fn untouched_gate(
     limit: u16,
     node: u16,
 ) -> u8
-    ensures { λ r. ⌜ r ≡ gate (kindOf (now (netlist .entry)) node) (indexed (λ k m. untouchedValue (pinMark (netOf (now (netlist .entry))) (linesIn circuit) (at (now (values .entry))) (at (take limit (now (marks .entry)))) node k m) (at (now (values .entry)) m)) 0 (netOf (now (netlist .entry)) .pins node)) ⌝ }
+    ensures { λ r. ⌜ r ≡ gate (kindOf (now (netlist .entry)) node) (untouchedValues (netOf (now (netlist .entry))) (linesIn circuit) (at (now (values .entry))) (at (take limit (now (marks .entry)))) node) ⌝ }
 {
     let rule = values::rule_of(circuit::kind_of(netlist, node));
     let gate = rule.gate;
@@ -226,6 +226,7 @@ fn latch_marks(netlist: &[u8], n: u16, circuit: Circuit, values: &[u8], marks: &
     move_down(n, marks);
 }
 
+// Whether a node is no output, or an output that is not touched.
 fn output_untouched(netlist: &[u8], marks: &[u8], node: u16) -> bool
     ensures { λ r. ⌜ r ≡ outputUntouched (netOf (now (netlist .entry))) (now (marks .entry)) node ⌝ }
 {
@@ -245,6 +246,7 @@ fn outputs_untouched(netlist: &[u8], n: u16, marks: &[u8]) -> bool
     true
 }
 
+// Whether no flip-flop's pin is touched.
 fn pins_untouched(netlist: &[u8], n: u16, circuit: Circuit, values: &[u8], marks: &[u8]) -> bool
     requires { ⌜ n ≡ netOf (now netlist) .size ⌝ }
     ensures { λ r. ⌜ r ≡ every (latchedUntouched (latchedMarks (netOf (now (netlist .entry))) (linesIn circuit) (at (now (values .entry))) (at (take n (now (marks .entry)))))) n ⌝ }
@@ -289,8 +291,8 @@ fn latch_frame(netlist: &[u8], n: u16, circuit: Circuit, known: &[u8], frame: u1
     latch_marks(netlist, n, circuit, values, marks);
 }
 
-// Whether no flip-flop's pin is touched in a frame, whose marks the first n bytes hold.
-fn pins_die(
+// The same in a frame of the window, whose marks the first n bytes hold.
+fn pins_untouched_at(
     netlist: &[u8],
     n: u16,
     circuit: Circuit,
@@ -332,7 +334,7 @@ fn dies_from(
         left -= 1;
     }
     mark_frame(netlist, n, circuit, known, frame, marks)
-        && pins_die(netlist, n, circuit, known, frame, marks)
+        && pins_untouched_at(netlist, n, circuit, known, frame, marks)
 }
 
 // The same from the fault frame on, where no flip-flop is touched yet. The marks are cleared afterwards.

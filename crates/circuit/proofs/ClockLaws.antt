@@ -8,7 +8,7 @@ use native.Mathlib.Omega.{arith}
 use lib.ListN.{drop, length}
 use borrow.Author.Tests.{eqb-true}
 use Rattle.values.proofs.GateLaws.{Refines, RefinesAll, indexed-refines, stuck-mono}
-use Rattle.values.proofs.ListLaws.{Below, below-table, build-agree, build-end, build-read, build-rest, build-same, getD-build, indexed-agree, length-build, rewritten-build}
+use Rattle.values.proofs.ListLaws.{Below, below-table, build-agree, build-end, build-read, build-rest, build-same, getD-build, indexed-agree, rewritten-build}
 use Rattle.values.proofs.ValueLaws.{stuck-free, stuck-known}
 use Rattle.circuit.proofs.SoundLaws.{Facts, facts}
 use Rattle.circuit.specs.Clock.{latchedBy, latchedInto, latchedList, pinValues, seenBy, seenList, settled}
@@ -121,14 +121,6 @@ module _ (c : Net) (s : StuckLines) where
   pub seenList-agree : (g h : ℕ → ℕ) → ((n : ℕ) → n < c .size → isGiven (c .kind n) ≡ true → g n ≡ h n) → seenList c s g ≡ seenList c s h
   unfolding seenList
   seenList-agree g h e = build-same (seenNext g) (seenNext h) (c .size) (λ l n p. given-agree g h (at l) n (e n p))
-
-  pub length-seen : (g : ℕ → ℕ) → length (seenList c s g) ≡ c .size
-  unfolding seenList
-  length-seen g = length-build (seenNext g) (c .size)
-
-  pub length-latched : (v : ℕ → ℕ) → length (latchedList c s v) ≡ c .size
-  unfolding latchedList
-  length-latched v = length-build (λ _. latchedBy c s v) (c .size)
 
   pub latched-at : (v : ℕ → ℕ) (n : ℕ) → n < c .size → at (latchedList c s v) n ≡ latchedBy c s v n
   unfolding latchedList

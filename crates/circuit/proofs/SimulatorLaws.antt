@@ -1,14 +1,14 @@
 -- Laws of the simulator's answer: when it is done, and that it has then made one clock step of a run.
-use mathlib.Core.Bool.{Bool, _&&_, _||_, false, not, true, true≢false}
+use mathlib.Core.Bool.{_&&_, true}
 use mathlib.Core.List.{List, []}
 use mathlib.Core.Option.{Option, none, some}
-use mathlib.Core.Path.{_∙_, _≡_, ap, refl, sym}
+use mathlib.Core.Path.{_∙_, _≡_, ap, refl}
 use Prim.Native.Nat.{_<_, ℕ}
 use native.Mathlib.Omega.{arith}
 use lib.Dec.{eqb, leb}
 use lib.ListN.{length}
 use borrow.Author.Tests.{eq-eqb, eqb-true, leb-true, ne-eqb}
-use Rattle.values.proofs.BoolLaws.{and-left, and-right}
+use Rattle.values.proofs.BoolLaws.{and-left, and-right, implied}
 use Rattle.values.proofs.ListLaws.{every-at}
 use Rattle.circuit.proofs.ClockLaws.{latched-into, settled-seen, sound-ordered}
 use Rattle.circuit.proofs.RefusalLaws.{FirstFails, NoneSmaller, Passed, refusal-at, refusal-by, refusal-none, refusal-smallest}
@@ -82,13 +82,9 @@ slices-fitting c first second e =
     rest : (eqb (length second) (c .size) && every (placeFits c first) (c .size)) ≡ true
     rest = and-right (eqb (length first) (c .size)) (eqb (length second) (c .size) && every (placeFits c first) (c .size)) e
 
-    readable : (b d : Bool) → (not b || d) ≡ true → b ≡ true → d ≡ true
-    readable true d e q = e
-    readable false d e q = absurd (true≢false (sym q))
-
     low : (n : ℕ) → n < c .size → isGiven (c .kind n) ≡ true → at first n < 2
     low n h q =
-        let l = leb-true (at first n) 1 (readable (isGiven (c .kind n)) (leb (at first n) 1) (every-at (placeFits c first) (c .size) (and-right (eqb (length second) (c .size)) (every (placeFits c first) (c .size)) rest) n h) q) in
+        let l = leb-true (at first n) 1 (implied (isGiven (c .kind n)) (leb (at first n) 1) (every-at (placeFits c first) (c .size) (and-right (eqb (length second) (c .size)) (every (placeFits c first) (c .size)) rest) n h) q) in
         omega arith
 
 -- the two halves of a clock step, one after the other on slices that fit, make the step

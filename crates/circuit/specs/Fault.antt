@@ -10,6 +10,9 @@ use Rattle.circuit.specs.declared.fault.Fault.{Fault}
 use Rattle.circuit.specs.declared.fault.Site.{Site}
 use Rattle.circuit.specs.declared.fault.Site.the-variants.{Pin, Whole}
 
+abbrev pub fault : ℕ → Site → ℕ → Fault
+fault n s u = record { node = n; site = s; stuck = u }
+
 -- the stuck value of a node, and of pin k of a node; 2 or more where the line is not stuck
 pub record StuckLines : Type 0 where
   pub node : ℕ → ℕ
@@ -21,6 +24,11 @@ noneStuck = record { node = λ n. 2; pin = λ n k. 2 }
 -- the site that a byte names: the node itself is written 255, a pin by its number
 abbrev pub siteOf : ℕ → Site
 siteOf b = cond (eqb b 255) Whole (Pin b)
+
+-- the byte that a site is written with
+abbrev pub siteByte : Site → ℕ
+siteByte Whole = 255
+siteByte (Pin k) = k
 
 -- the site is the node itself; the site is pin k
 abbrev pub isWhole : Site → Bool

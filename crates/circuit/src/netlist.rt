@@ -29,12 +29,14 @@ pub fn refusal_number(reading: Reading) -> u8
     }
 }
 
+// N: how many nodes the netlist has.
 pub fn node_count(netlist: &[u8]) -> u16
     ensures { λ r. ⌜ r ≡ nodeCount (now (netlist .entry)) ⌝ }
 {
     u16_at(netlist, 0)
 }
 
+// P: how many pins all of its nodes have together.
 pub fn pin_count(netlist: &[u8]) -> u16
     ensures { λ r. ⌜ r ≡ pinCount (now (netlist .entry)) ⌝ }
 {
@@ -47,6 +49,7 @@ pub fn kind_of(netlist: &[u8], node: u16) -> u8
     byte_at(netlist, 4 + 5 * (node as usize))
 }
 
+// How many pins stand before a node's own.
 fn offset_of(netlist: &[u8], node: u16) -> u16
     ensures { λ r. ⌜ r ≡ offsetOf (now (netlist .entry)) node ⌝ }
 {
@@ -81,12 +84,14 @@ pub fn source_of(netlist: &[u8], node: u16, pin: u16) -> u16
     source_at(netlist, pins_place(netlist, node), pin)
 }
 
+// Whether N and P are within their limits.
 fn sizes_allowed(n: u16, p: u16) -> bool
     ensures { λ r. ⌜ r ≡ sizesAllowed n p ⌝ }
 {
     0 < n && (n <= 4096 && p <= 16384)
 }
 
+// Whether each of the first n nodes has a kind from 0 to 10.
 fn kinds_known(netlist: &[u8], n: u16) -> bool
     ensures { λ r. ⌜ r ≡ every (kindKnown (now (netlist .entry))) n ⌝ }
 {
@@ -117,6 +122,7 @@ fn pairs_joined(netlist: &[u8], n: u16, p: u16) -> bool
     start == p as usize
 }
 
+// Whether a node has as many pins as its kind allows.
 fn count_fits(netlist: &[u8], node: u16) -> bool
     ensures { λ r. ⌜ r ≡ countFits (now (netlist .entry)) node ⌝ }
 {
@@ -125,6 +131,7 @@ fn count_fits(netlist: &[u8], node: u16) -> bool
     rule.least <= count && count <= rule.most
 }
 
+// Whether each of the first n nodes has.
 fn counts_fit(netlist: &[u8], n: u16) -> bool
     ensures { λ r. ⌜ r ≡ every (countFits (now (netlist .entry))) n ⌝ }
 {
@@ -149,7 +156,7 @@ fn source_limit(netlist: &[u8], n: u16, node: u16) -> u16
     }
 }
 
-// Besides, no pin names an output.
+// Whether a pin names a source that it may name: besides the limit, no pin names an output.
 fn source_allowed(netlist: &[u8], n: u16, node: u16, pin: u16) -> bool
     requires { ⌜ n ≡ nodeCount (now netlist) ⌝ }
     ensures { λ r. ⌜ r ≡ sourceAllowed (now (netlist .entry)) node pin ⌝ }
@@ -158,6 +165,7 @@ fn source_allowed(netlist: &[u8], n: u16, node: u16, pin: u16) -> bool
     source < source_limit(netlist, n, node) && kind_of(netlist, source) != OUTPUT
 }
 
+// Whether each of a node's pins names a source that it may name.
 fn sources_allowed(netlist: &[u8], n: u16, node: u16) -> bool
     requires { ⌜ n ≡ nodeCount (now netlist) ⌝ }
     ensures { λ r. ⌜ r ≡ sourcesAllowed (now (netlist .entry)) node ⌝ }
@@ -173,6 +181,7 @@ fn sources_allowed(netlist: &[u8], n: u16, node: u16) -> bool
     true
 }
 
+// The same of the first n nodes.
 fn all_sources_allowed(netlist: &[u8], n: u16) -> bool
     requires { ⌜ n ≡ nodeCount (now netlist) ⌝ }
     ensures { λ r. ⌜ r ≡ every (sourcesAllowed (now (netlist .entry))) n ⌝ }

@@ -8,12 +8,11 @@ use lib.ListN.{replicate}
 use Rattle.circuit.proofs.Vectors.{p1, p3, p6, p9}
 use Rattle.circuit.specs.Answer.{Answer, outcome, refused}
 use Rattle.circuit.specs.Clock.{pinValues}
-use Rattle.circuit.specs.Fault.{faultExists, linesOf}
+use Rattle.circuit.specs.Fault.{fault, faultExists, linesOf}
 use Rattle.values.specs.Kind.{gate, ruleOf}
 use Rattle.values.specs.Lists.{any, build, every}
 use Rattle.circuit.specs.Netlist.{countFits, kindKnown, netOf, pairJoined, pairStart, pinsOf, reading, sizesAllowed, sound, sourceAllowed, sourceOf, sourcesAllowed}
 use Rattle.circuit.specs.declared.fault.Fault.{Fault}
-use Rattle.circuit.specs.declared.fault.Site.{Site}
 use Rattle.circuit.specs.declared.fault.Site.the-variants.{Pin, Whole}
 use Rattle.checker.specs.Certificate.{pairsRight, stepsIn, stepsOf}
 use Rattle.checker.specs.Checker.{accepted, checkerCall, checking, closes, follows, judged, replay, replayed, stepWithin, verdict}
@@ -22,9 +21,6 @@ use Rattle.checker.specs.Window.{begin, conclusion, enter, held, inForce, known
 use Rattle.finder.specs.Finder.{answerFor, branchOf, bytesFor, certificateFor, finderCall, finderOutcome, finding, firstSome, found, nothingFound, searched, splitCloses, stepCount, tryFrames, tryNodes, trySplit, tryWindows}
 use Rattle.finder.specs.Sweeps.{rising, saysNothing, sweep, sweepFrame, sweeps, tryLine, useRelation, implied}
 use Rattle.finder.specs.Written.{certificateOf, headBytes, runBytes}
-
-abbrev fault : ℕ → Site → ℕ → Fault
-fault n s u = record { node = n; site = s; stuck = u }
 
 -- for nodes n = 1 to 5 the step n 00 01 v n 00 01
 abbrev run : ℕ → List ℕ

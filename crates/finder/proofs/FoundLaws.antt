@@ -240,7 +240,7 @@ module _ (a : FinderCall) (answer : Answer) (v w x : List ℕ) (e : finderOutcom
   circuit = netOf (a .netlist)
 
   abbrev first : Option Split
-  first = firstSplit circuit (a .fault) (a .f) (a .b)
+  first = firstSplit circuit (a .fault) (a .b) (a .f)
 
   answer-is : Searched a (finderOutcome answer v w x) → answer ≡ answerFor circuit (a .fault) (a .f) first
   unfolding searched

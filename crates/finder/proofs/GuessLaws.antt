@@ -1,30 +1,28 @@
 -- Guessed sets of values: one that has the held values, of which a sweep makes no step, and in which the effect does not die, is an open set,
 -- wherever it is from.
-use mathlib.Core.Bool.{Bool, false, true}
-use mathlib.Core.List.{List, [], _∷_}
+use mathlib.Core.Bool.{false}
+use mathlib.Core.List.{List, []}
 use mathlib.Core.Logic.{_⊎_, inl, inr}
 use mathlib.Core.Path.{_∙_, _≡_, ap, refl, subst, sym}
 use Prim.Native.Nat.{_*_, _+_, _<_, _≤_, ℕ}
 use native.Mathlib.Decide.{decLt, ℕ-discrete}
 use native.Mathlib.Omega.{arith}
-use lib.ListN.{length}
 use Rattle.circuit.proofs.ClockLaws.{Ordered}
 use Rattle.circuit.specs.Fault.{StuckLines, linesOf}
 use Rattle.circuit.specs.Netlist.{Net}
 use Rattle.circuit.specs.declared.fault.Fault.{Fault}
 use Rattle.values.proofs.GateLaws.{Refines}
 use Rattle.values.specs.Lists.{at}
-use Rattle.values.specs.Value.{isUnknown}
 use Rattle.checker.proofs.HoldLaws.{none-held}
 use Rattle.checker.proofs.Monotone.{Shut}
 use Rattle.checker.proofs.RelationLaws.{absent-from, present-below}
-use Rattle.checker.specs.Trace.{effectDies, mark}
+use Rattle.checker.specs.Trace.{effectDies}
 use Rattle.checker.specs.Window.{conclusion, held, knownIn, presentBelow}
 use Rattle.finder.proofs.OpenSets.{open-set, side-open}
 use Rattle.finder.proofs.StillLaws.{Silent, bytes-count, nothing-new, still-silent, sweep-moves, sweep-still}
 use Rattle.finder.specs.Finder.{branchOf, split}
 use Rattle.finder.specs.Sweeps.{sweep}
-use Rattle.finder.specs.Work.{HasHeld, KeptOpen, Work, inBytes, tally, unknowns, work}
+use Rattle.finder.specs.Work.{HasHeld, KeptOpen, Work, inBytes, work}
 
 -- ---- the held values
 
@@ -65,20 +63,6 @@ module _ (N : ℕ) (f : Fault) (c : ℕ) (known : List ℕ) where
       go (yes p) (no d) = let e = ap (λ (s : StuckLines). s .node n) (present-below c (linesOf f) t p) in omega (arith, e, h, none-held f n d)
 
 -- ---- the sweep
-
-mark-low : (b : Bool) → mark b ≤ 1
-mark-low true = omega arith
-mark-low false = omega arith
-
-unknowns-few : (l : List ℕ) → unknowns l ≤ length l
-unfolding unknowns
-unknowns-few [] = omega arith
-unknowns-few (v ∷ vs) = let m : mark (isUnknown v) ≤ 1 = mark-low (isUnknown v) in omega (arith, m, unknowns-few vs)
-
--- the steps that may come where none was made
-pub tally-start : (known run : List ℕ) → tally (work known run 0 false) ≤ length known + 1
-unfolding tally
-tally-start known run = omega (arith, unknowns-few known)
 
 -- what bytes have, where a sweep changes nothing, is a shut set
 pub still-shut : (net : Net) (S : ℕ → StuckLines) (W : ℕ) (w : Work) → w .closed ≡ false → sweep (inBytes (net .size)) net S W w ≡ w

@@ -1,28 +1,28 @@
 -- The lent bytes stand for a branch: sweeps do the same to both.
 use mathlib.Core.Bool.{Bool, _||_, cond, false, not, true}
 use mathlib.Core.List.{List, [], _++_, _∷_}
-use mathlib.Core.Path.{_∙_, _≡_, ap, refl, subst, sym}
+use mathlib.Core.Path.{_∙_, _≡_, ap, subst, sym}
 use Prim.Native.Nat.{_*_, _+_, _<_, _≤_, suc, zero, ℕ}
 use native.Mathlib.Nat.{mul-comm, mul-le-mul-right}
 use native.Mathlib.Omega.{arith}
 use lib.Dec.{eqb}
-use lib.ListN.{getD, length, length-append, length-replicate, length-set, replicate, set}
+use lib.ListN.{length, length-append, length-replicate, length-set, replicate, set}
 use lib.Seq.{getD-set-same, sets}
 use Rattle.circuit.proofs.ClockLaws.{Ordered}
 use Rattle.circuit.proofs.SoundLaws.{facts, sound-size}
 use Rattle.circuit.specs.Fault.{StuckLines, linesOf}
 use Rattle.values.specs.Lists.{at}
 use Rattle.circuit.specs.Netlist.{Net, netOf, reading, sound}
-use Rattle.values.specs.Value.{differ, isUnknown, stuckOr}
+use Rattle.values.specs.Value.{differ, isUnknown}
 use Rattle.circuit.specs.declared.fault.Fault.{Fault}
 use Rattle.checker.proofs.Agreement.{conclusion-agree}
-use Rattle.checker.proofs.HoldLaws.{begin-closed-in, begin-holds-in, held-length, holds-set, place-within}
+use Rattle.checker.proofs.HoldLaws.{begin-closed-in, begin-holds-in, enter-in-slice, held-length, place-within}
 use Rattle.checker.proofs.ReplayLaws.{begin-full}
-use Rattle.checker.specs.Window.{Branch, Entered, Holds, begin, beginAt, beginIn, conclusion, enter, entered, held, holdFrames, inForce, known, knownIn, presentBelow}
+use Rattle.checker.specs.Window.{Branch, Entered, Holds, begin, beginAt, beginIn, conclusion, enter, entered, holdFrames, inForce, known, knownIn, presentBelow}
 use Rattle.checker.specs.Checker.{closes}
 use Rattle.checker.specs.Trace.{effectDies, mark}
 use Rattle.checker.specs.declared.step.Step.{Step}
-use Rattle.finder.proofs.ReplayedLaws.{begin-steps, conclusion-within}
+use Rattle.finder.proofs.ReplayedLaws.{begin-steps, conclusion-within, enter-steps}
 use Rattle.finder.proofs.RisingLaws.{rising-together}
 use Rattle.finder.proofs.SetsLaws.{sets-after}
 use Rattle.finder.proofs.WorkLaws.{unknowns-fewer, unknowns-most}
@@ -41,28 +41,9 @@ module _ (net : Net) (o : Ordered net) (S : ℕ → StuckLines) (W : ℕ) (run :
     pub same-count : w .steps ≡ length (b .steps)
     pub same-run : w .run ≡ sets run 0 (runBytes (b .steps))
 
-  -- a value that is stored where nothing is held
-  free : (h x v : ℕ) → isUnknown (stuckOr h x) ≡ true → v ≡ stuckOr h v
-  free zero x v z = absurd (let y : _≡_ {A = ℕ} 0 1 = cc in omega arith)
-  free (suc zero) x v z = absurd (let y : _≡_ {A = ℕ} 0 1 = cc in omega arith)
-  free (suc (suc h)) x v z = refl
-
   -- ---- a step
 
   module _ (b : Branch) (w : Work) (r : Stands b w) (s : Step) (hn : s .node < net .size) (ht : s .frame < W) where
-    entering : Bool → Branch
-    entering q =
-        elim q [
-          | true ↦ record { values = set (b .values) (s .frame * net .size + s .node) (s .value); steps = b .steps ++ (s ∷ []); closed = false }
-          | false ↦ record { values = b .values; steps = b .steps ++ (s ∷ []); closed = true }
-        ]
-
-    slice : Bool → Entered
-    slice q = cond q (entered false (set (w .known) (s .frame * net .size + s .node) (s .value))) (entered true (w .known))
-
-    taking : Bool → Work
-    taking q = work (slice q .bytes) (sets (w .run) (7 * w .steps) (stepBytes s)) (w .steps + 1) (slice q .closed)
-
     one-more : w .steps + 1 ≡ length (b .steps ++ (s ∷ []))
     one-more = omega (arith, r .same-count, length-append (b .steps) (s ∷ []))
 
@@ -74,24 +55,20 @@ module _ (net : Net) (o : Ordered net) (S : ℕ → StuckLines) (W : ℕ) (run :
         ∙ sets-after (runBytes (b .steps)) (stepBytes s) run 0
         ∙ ap (λ (l : List ℕ). sets run 0 l) (sym (run-append (b .steps) (s ∷ [])))
 
-    by-test : (q : Bool) → isUnknown (known net S (b .values) (s .node) (s .frame)) ≡ q → Stands (entering q) (taking q)
-    unfolding entering taking slice known
-    by-test true z =
-        record {
-          holds = holds-set net S W (s .node) (s .frame) (s .value) (b .values) (w .known) hn ht (r .full) (r .wide) (free (held net S (s .node) (s .frame)) (getD (b .values) (s .frame * net .size + s .node) 2) (s .value) z) (r .holds);
-          full = length-set (w .known) (s .frame * net .size + s .node) (s .value) ∙ r .full;
-          wide = length-set (b .values) (s .frame * net .size + s .node) (s .value) ∙ r .wide;
-          same-closed = refl;
-          same-count = one-more;
-          same-run = longer-run;
-        }
-    by-test false z = record { holds = r .holds; full = r .full; wide = r .wide; same-closed = refl; same-count = one-more; same-run = longer-run }
-
     take-stands : Stands (enter net S b s) (takeIn (net .size) w s)
-    unfolding Holds enter entering taking slice takeIn
+    unfolding takeIn
     take-stands =
-        subst (λ (q : Bool). Stands (entering (isUnknown (known net S (b .values) (s .node) (s .frame)))) (taking q)) (ap isUnknown (sym (r .holds (s .node) (s .frame) hn ht)))
-        (by-test (isUnknown (known net S (b .values) (s .node) (s .frame))) refl)
+        let both =
+        enter-in-slice net S W b (entered (w .closed) (w .known)) (record { holds = r .holds; full = r .full; wide = r .wide; same-closed = r .same-closed }) s hn ht in
+        let more = sym (enter-steps net S b s) in
+        record {
+          holds = both .holds;
+          full = both .full;
+          wide = both .wide;
+          same-closed = both .same-closed;
+          same-count = one-more ∙ ap length more;
+          same-run = longer-run ∙ ap (λ (ss : List Step). sets run 0 (runBytes ss)) more;
+        }
 
   -- ---- a line of a relation
 

@@ -2,9 +2,8 @@
 use mathlib.Core.List.{List, [], _++_, _∷_}
 use Prim.Native.Nat.{_%_, _*_, _+_, _/_, ℕ}
 use lib.ListN.{length}
+use Rattle.circuit.specs.Fault.{siteByte}
 use Rattle.circuit.specs.declared.fault.Fault.{Fault}
-use Rattle.circuit.specs.declared.fault.Site.{Site}
-use Rattle.circuit.specs.declared.fault.Site.the-variants.{Pin, Whole}
 use Rattle.checker.specs.Certificate.{headLength}
 use Rattle.checker.specs.declared.step.Step.{Step}
 use Rattle.finder.specs.declared.split.Split.{Split}
@@ -15,11 +14,6 @@ bytes₂ x = x % 256 ∷ x / 256 ∷ []
 
 abbrev pub bytes₄ : ℕ → List ℕ
 bytes₄ x = bytes₂ (x % 65536) ++ bytes₂ (x / 65536)
-
--- the node itself is written 255, a pin by its number
-abbrev pub siteByte : Site → ℕ
-siteByte Whole = 255
-siteByte (Pin k) = k
 
 -- A step: node (2), frame (1), value (1), then node (2) and frame (1) of the relation used.
 abbrev pub stepBytes : Step → List ℕ

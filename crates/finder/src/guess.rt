@@ -294,7 +294,7 @@ fn grow_window(
     grow_frames(netlist, n, fault, b, f, values, trial, marks);
 }
 
-// Makes every byte one below 4: a value, or unknown, stays as it is.
+// Makes every byte one below 4, so that it holds no note: a value, or unknown, stays as it is.
 fn keep_small(values: &mut [u8])
     ensures { λ _. ⌜ ((p : ℕ) → at (now (values .exit)) p < 4) ⌝ }
 {

@@ -12,12 +12,12 @@ use lib.ListN.{length, length-append}
 use Rattle.values.proofs.BoolLaws.{and-left, and-right}
 use Rattle.circuit.proofs.NetlistLaws.{pins-length}
 use Rattle.circuit.proofs.SoundLaws.{Facts}
-use Rattle.circuit.specs.Fault.{faultExists, siteExists}
+use Rattle.circuit.specs.Fault.{fault, faultExists, siteExists}
 use Rattle.circuit.specs.Netlist.{Net, lengthOf, netOf, nodeCount, offsetOf, pinCount}
 use Rattle.circuit.specs.declared.fault.Fault.{Fault}
 use Rattle.circuit.specs.declared.fault.Site.{Site}
 use Rattle.circuit.specs.declared.fault.Site.the-variants.{Pin, Whole}
-use Rattle.listing.specs.Faults.{behindSite, fault, faultAfter, faults, faultsOf, firstOf, followsAt, nodeFaults, pinFaults, siteFaults}
+use Rattle.listing.specs.Faults.{behindSite, faultAfter, faults, faultsOf, firstOf, followsAt, nodeFaults, pinFaults, siteFaults}
 use Rattle.listing.specs.Turns.{restAfter, restOfNode, stageAt}
 use Rattle.listing.specs.declared.progress.Stage.{Stage}
 use Rattle.listing.specs.declared.progress.Stage.the-variants.{Counted, Looking, Over}

@@ -13,8 +13,8 @@ use lib.ListN.{drop-of-length-le, length, take}
 use lib.Seq.{sets}
 use Rattle.circuit.proofs.RefusalLaws.{FirstFails, fails-here, fails-later, refusal-at, refusal-by}
 use Rattle.circuit.proofs.SoundLaws.{Facts, answered-sound, facts, refused-first, sound-size}
-use Rattle.circuit.specs.Answer.{Answer, Test, answered, refusal, refused}
-use Rattle.circuit.specs.Fault.{faultExists}
+use Rattle.circuit.specs.Answer.{Answer, Test, answered, refused}
+use Rattle.circuit.specs.Fault.{faultExists, siteByte}
 use Rattle.circuit.specs.Netlist.{Net, netOf, nodeCount, pinCount, readerTests, reading, sound}
 use Rattle.circuit.specs.declared.fault.Fault.{Fault}
 use Rattle.circuit.specs.declared.fault.Site.{Site}
@@ -23,7 +23,7 @@ use Rattle.finder.proofs.FindingLaws.{all-passed, finding-unsound, short-certif
 use Rattle.finder.proofs.FirstLaws.{split-some}
 use Rattle.finder.proofs.FoundLaws.{pins-few, site-few}
 use Rattle.finder.specs.Finder.{FinderCall, FinderOutcome, answerFor, bytesFor, certificateFor, finderCall, finding, firstSplit, searched, split, turnedBack, written}
-use Rattle.finder.specs.Written.{certificateOf, headBytes, siteByte}
+use Rattle.finder.specs.Written.{certificateOf, headBytes}
 use Rattle.finder.specs.declared.split.Split.{Split}
 use Rattle.listing.proofs.FaultListLaws.{StageExists, exists-node, exists-stuck, faults-few, first-exists, first-rest, listLeft, rest-step, stage-exists}
 use Rattle.listing.proofs.ReportTestLaws.{cut-same, report-read, report-short, report-windowed}
@@ -99,7 +99,7 @@ module _ (input : List ℕ) where
   abbrev makesBy : Fault → Slices → ℕ → ℕ → Option Split → Made
   makesBy f s a b x = madeFor net f a b (written (bytesFor net f F x) (s .certificate)) (answerFor net f F x)
 
-  makes-searched : (f : Fault) (s : Slices) (a b : ℕ) → finding (call f s) ≡ searched (call f s) → makes f a b (finding (call f s)) ≡ makesBy f s a b (firstSplit net f F B)
+  makes-searched : (f : Fault) (s : Slices) (a b : ℕ) → finding (call f s) ≡ searched (call f s) → makes f a b (finding (call f s)) ≡ makesBy f s a b (firstSplit net f B F)
   unfolding searched
   makes-searched f s a b e = ap (makes f a b) e
 
@@ -152,9 +152,9 @@ module _ (input : List ℕ) where
   added f none ms = ms
   added f (some s) ms = mark f s ∷ ms
 
-  marks-more : (f : Fault) (fs : List Fault) → marksAmong net B F (f ∷ fs) ≡ added f (firstSplit net f F B) (marksAmong net B F fs)
+  marks-more : (f : Fault) (fs : List Fault) → marksAmong net B F (f ∷ fs) ≡ added f (firstSplit net f B F) (marksAmong net B F fs)
   unfolding marksAmong
-  marks-more f fs = go (firstSplit net f F B)
+  marks-more f fs = go (firstSplit net f B F)
     where
       go : (x : Option Split) → _≡_ {A = List Mark} (elim x [ some s ↦ mark f s ∷ marksAmong net B F fs | none ↦ marksAmong net B F fs ]) (added f x (marksAmong net B F fs))
       go none = refl
@@ -183,7 +183,7 @@ module _ (input : List ℕ) where
     searches f s r h =
         all-passed (call f s) (nodeCount nb) (pinCount nb) e h narrow (omega (arith, window-small, r .first)) (omega (arith, window-small, r .second)) (omega (arith, fits, r .certificate))
 
-    mark-fits : (f : Fault) (s : Split) → faultExists net f ≡ true → firstSplit net f F B ≡ some s → length (markLine f s) ≤ 80
+    mark-fits : (f : Fault) (s : Split) → faultExists net f ≡ true → firstSplit net f B F ≡ some s → length (markLine f s) ≤ 80
     mark-fits f s h q =
         let i = split-some net f F B s q .within in
         let n = exists-node net f h in
@@ -208,7 +208,7 @@ module _ (input : List ℕ) where
       lines-more : (m : ℕ) → Lines m → Lines (suc m)
       lines-more m r i Over a b j ex live l ab few = absurd (true≢false live)
       lines-more m r i Counted a b j ex live l ab few = absurd (omega arith)
-      lines-more m r i (Looking f) a b j ex live l ab few = go (firstSplit net f F B) refl
+      lines-more m r i (Looking f) a b j ex live l ab few = go (firstSplit net f B F) refl
         where
           next : Stage
           next = stageAt net (faultAfter net f)
@@ -225,13 +225,13 @@ module _ (input : List ℕ) where
           later : (a b j : ℕ) → a ≤ b → b + m ≤ 73728 → Ends S room (i + 1) (suc m) (progress next a b j) (text marks (a + length marks) (b + m))
           later a b j = r (i + 1) next a b j (stage-exists net f ex) (open-stage net (faultAfter net f)) shorter
 
-          all-marks : (x : Option Split) → firstSplit net f F B ≡ x → marksAmong net B F (f ∷ restAfter net f) ≡ added f x marks
+          all-marks : (x : Option Split) → firstSplit net f B F ≡ x → marksAmong net B F (f ∷ restAfter net f) ≡ added f x marks
           all-marks x q = marks-more f (restAfter net f) ∙ (λ i. added f (q i) (marksAmong net B F (rest-is i)))
 
-          search-made : (x : Option Split) → firstSplit net f F B ≡ x → makes f a b (finding (call f (S i))) ≡ makesBy f (S i) a b x
+          search-made : (x : Option Split) → firstSplit net f B F ≡ x → makes f a b (finding (call f (S i))) ≡ makesBy f (S i) a b x
           search-made x q = makes-searched f (S i) a b (searches f (S i) (room i) ex) ∙ ap (makesBy f (S i) a b) q
 
-          go : (x : Option Split) → firstSplit net f F B ≡ x
+          go : (x : Option Split) → firstSplit net f B F ≡ x
               → Ends S room i (suc (suc m)) (progress (Looking f) a b j) (text (marksAmong net B F (f ∷ restAfter net f)) (a + length (marksAmong net B F (f ∷ restAfter net f))) (b + suc m))
           go none q =
               let d : oneMore b ≡ b + 1 = counts-on b (omega arith) in

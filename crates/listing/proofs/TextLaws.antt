@@ -3,27 +3,20 @@ use mathlib.Core.List.{List, [], _++_, _∷_}
 use mathlib.Core.Path.{_∙_, _≡_, ap, sym}
 use Prim.Native.Nat.{_%_, _*_, _+_, _/_, _<_, _≤_, suc, zero, ℕ}
 use native.Mathlib.Decide.{decLt}
-use native.Mathlib.Nat.{add-zero}
 use native.Mathlib.Numerals.{add-one}
 use native.Mathlib.Omega.{arith}
 use borrow.Author.Tests.{le-ltb, lt-ltb}
 use lib.ListN.{drop, getD, length, length-append, length-take, set, take}
 use lib.Seq.{sets, sets-eq, take-all, take-append-le, take-suc}
+use Rattle.circuit.specs.Fault.{siteByte}
 use Rattle.circuit.specs.declared.fault.Fault.{Fault}
-use Rattle.finder.specs.Written.{siteByte}
+use Rattle.finder.proofs.SetsLaws.{sets-after}
 use Rattle.finder.specs.declared.split.Split.{Split}
 use Rattle.listing.specs.Lines.{decimal, digit, digits, field, lineFeed, markLine, refusedLine, space, totalLine}
 
--- a run straight after a run is one run
-pub run-after : (us vs l : List ℕ) (a : ℕ) → sets (sets l a us) (a + length us) vs ≡ sets l a (us ++ vs)
-run-after [] vs l a = rw add-zero
-run-after (u ∷ us) vs l a =
-    let e : a + suc (length us) ≡ suc a + length us = omega arith in
-    rw e (run-after us vs (set l a u) (suc a))
-
 -- one byte more
 pub byte-after : (us l : List ℕ) (a b : ℕ) → set (sets l a us) (a + length us) b ≡ sets l a (us ++ (b ∷ []))
-byte-after us l a b = run-after us (b ∷ []) l a
+byte-after us l a b = sets-after us (b ∷ []) l a
 
 -- a run us stands from a on, up to b, in m, which is otherwise l
 pub record Run (l : List ℕ) (a : ℕ) (us m : List ℕ) (b : ℕ) : Type 0 where
@@ -36,7 +29,7 @@ run-by l a us h e = record { holds = h; ends = e }
 pub runs : {l m k : List ℕ} {a b d : ℕ} {us vs : List ℕ} → Run l a us m b → Run m b vs k d → Run l a (us ++ vs) k d
 runs {l} {m} {k} {a} {b} {d} {us} {vs} p q =
     record {
-      holds = q .holds ∙ rw (p .holds, p .ends) (run-after us vs l a);
+      holds = q .holds ∙ rw (p .holds, p .ends) (sets-after us vs l a);
       ends = simp length-append (omega (arith, p .ends, q .ends));
     }
 

@@ -4,13 +4,11 @@ use mathlib.Core.List.{List, [], _++_, _∷_}
 use Prim.Native.Nat.{_+_, suc, zero, ℕ}
 use lib.Dec.{ltb}
 use lib.ListN.{length}
+use Rattle.circuit.specs.Fault.{fault}
 use Rattle.circuit.specs.Netlist.{Net}
 use Rattle.circuit.specs.declared.fault.Fault.{Fault}
 use Rattle.circuit.specs.declared.fault.Site.{Site}
 use Rattle.circuit.specs.declared.fault.Site.the-variants.{Pin, Whole}
-
-abbrev pub fault : ℕ → Site → ℕ → Fault
-fault n s u = record { node = n; site = s; stuck = u }
 
 -- the faults of a site: u 0, then u 1
 abbrev pub siteFaults : ℕ → Site → List Fault

@@ -3,8 +3,8 @@ use mathlib.Core.Bool.{false, true}
 use mathlib.Core.List.{List, [], _++_, _∷_}
 use Prim.Native.Nat.{_%_, _+_, _/_, suc, zero, ℕ}
 use lib.Dec.{ltb}
+use Rattle.circuit.specs.Fault.{siteByte}
 use Rattle.circuit.specs.declared.fault.Fault.{Fault}
-use Rattle.finder.specs.Written.{siteByte}
 use Rattle.finder.specs.declared.split.Split.{Split}
 
 -- one space between; a line feed ends each line

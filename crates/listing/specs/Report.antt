@@ -40,7 +40,7 @@ mark f s = record { fault = f; split = s }
 -- the marks among these faults
 unfoldable pub marksAmong : Net → ℕ → ℕ → List Fault → List Mark
 marksAmong net B F [] = []
-marksAmong net B F (f ∷ fs) = elim (firstSplit net f F B) [ some s ↦ mark f s ∷ marksAmong net B F fs | none ↦ marksAmong net B F fs ]
+marksAmong net B F (f ∷ fs) = elim (firstSplit net f B F) [ some s ↦ mark f s ∷ marksAmong net B F fs | none ↦ marksAmong net B F fs ]
 
 -- A line for each mark.
 unfoldable pub markLines : List Mark → List ℕ

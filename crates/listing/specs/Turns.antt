@@ -8,13 +8,14 @@ use lib.Dec.{ltb}
 use lib.ListN.{length, take}
 use lib.Seq.{sets}
 use Rattle.circuit.specs.Answer.{Answer, answered, refused}
+use Rattle.circuit.specs.Fault.{fault}
 use Rattle.circuit.specs.Netlist.{Net, netOf}
 use Rattle.circuit.specs.declared.fault.Fault.{Fault}
 use Rattle.circuit.specs.declared.fault.Site.{Site}
 use Rattle.circuit.specs.declared.fault.Site.the-variants.{Pin, Whole}
 use Rattle.checker.specs.Certificate.{splitFrame, splitNode}
 use Rattle.finder.specs.Finder.{finderCall, finding, split}
-use Rattle.listing.specs.Faults.{fault, faultAfter, faultsOf, firstFault, pinFaults, siteFaults}
+use Rattle.listing.specs.Faults.{faultAfter, faultsOf, firstFault, pinFaults, siteFaults}
 use Rattle.listing.specs.Lines.{markLine, refusedLine, totalLine}
 use Rattle.listing.specs.Report.{bufferLength, givenB, givenF, netlistIn, report}
 use Rattle.listing.specs.declared.progress.Progress.{Progress}

@@ -4,12 +4,10 @@ ghost use Prim.Native.Nat.{_+_, _≤_};
 ghost use lib.ListN.{length};
 ghost use lib.Seq.{sets};
 ghost use Rattle.finder.specs.Finder.{split};
-ghost use Rattle.finder.specs.Written.{siteByte};
 ghost use Rattle.checker.specs.Certificate.{splitFrame, splitNode};
 ghost use Rattle.listing.specs.Lines.{decimal, field, markLine, refusedLine, totalLine};
 use checker::FAULT_LENGTH;
 use circuit::Fault;
-use circuit::Site;
 
 // Writes a number in decimal, from a place on, and says where it ends.
 fn put_decimal(out: &mut [u8], place: usize, number: u32) -> usize
@@ -51,16 +49,6 @@ fn put_text(out: &mut [u8], place: usize, text: &[u8]) -> usize
     place + text.len()
 }
 
-// The byte that a site is written with.
-fn site_byte(site: Site) -> u8
-    ensures { λ r. ⌜ r ≡ siteByte site ⌝ }
-{
-    match site {
-        Site::Whole => 255,
-        Site::Pin(pin) => pin,
-    }
-}
-
 // The line of a mark: the fault, c, and the split that its certificate names. Says how long it is.
 pub(crate) fn mark_line(out: &mut [u8], fault: Fault, c: u8, certificate: &[u8]) -> usize
     ensures { λ r. ⌜ (r ≡ length (markLine fault (split c (splitFrame (now (certificate .entry))) (splitNode (now (certificate .entry)))))) × (r ≤ 80) ⌝ }
@@ -71,7 +59,7 @@ pub(crate) fn mark_line(out: &mut [u8], fault: Fault, c: u8, certificate: &[u8])
     let node = values::u16_at(rest, 2);
     let frame = values::byte_at(rest, 4);
     let mut end = put_field(out, 0, fault.node as u32, b' ');
-    end = put_field(out, end, site_byte(site) as u32, b' ');
+    end = put_field(out, end, circuit::site_byte(site) as u32, b' ');
     end = put_field(out, end, fault.stuck as u32, b' ');
     end = put_field(out, end, c as u32, b' ');
     end = put_field(out, end, node as u32, b' ');

@@ -19,7 +19,7 @@ use Rattle.checker.proofs.trace.dies_from.Reads as reads
 use Rattle.checker.proofs.trace.dies_from.Lts as lts
 use Rattle.checker.proofs.trace.latch_frame.Reads as latch-frame-reads
 use Rattle.checker.proofs.trace.mark_frame.Reads as mark-frame-reads
-use Rattle.checker.proofs.trace.pins_die.Reads as pins-die-reads
+use Rattle.checker.proofs.trace.pins_untouched_at.Reads as pins-untouched-at-reads
 
 abbrev Inv-loop : tie.InvT-loop
 Inv-loop netlist n c f known marks₀ circuit₀ frame₀ left₀ marks circuit frame left = (length marks ≡ length marks₀) × (left ≤ f) × (frame + left ≡ c + f) × (effectDies (netOf netlist) (knownIn known (netOf netlist .size)) f c (linesIn circuit₀) (take n marks₀) ≡ effectDies (netOf netlist) (knownIn known (netOf netlist .size)) left frame (linesIn circuit) (take n marks))
@@ -97,8 +97,8 @@ mark-frame-requires-2 c κs = let a = c .before .before .before .before .before 
     (c .before .before .before .before .before .before .pre .0, omega (arith, g, c .before .before .before .before .before .before .pre .1, c .before .before .loop .inv .0))
 
 -- src/trace.rt:256:61
-pins-die-requires : tie.Need-pins-die-requires Inv-loop μ-loop
-pins-die-requires c κs = c .before .before .before .before .before .before .before .before .before .before .before .pre .0
+pins-untouched-at-requires : tie.Need-pins-untouched-at-requires Inv-loop μ-loop
+pins-untouched-at-requires c κs = c .before .before .before .before .before .before .before .before .before .before .before .pre .0
 
 -- src/trace.rt:239:1
 same-length-2 : tie.Need-same-length-2 Inv-loop μ-loop
@@ -114,8 +114,8 @@ returns-2 c = let a = c .before .before .before .before .before .before .before 
     let D = linesIn (l .circuit) in
     let m = take (a .n) (l .marks) in
     let z : l .left ≡ 0 = omega (arith, c .before .before .before .before .before .before .before .loop-test .left) in
-    let q = c .pins-die .ensures ∙ ap (λ (x : List ℕ). every (latchedUntouched (latchedMarks net D (λ i. kn i (l .frame)) (at x))) (net .size)) (c .before .before .before .before .before .mark-frame2 .ensures .0) in
-    ap (λ (b : Bool). b && c .pins-die .result) (sym (c .before .before .if2 .taken)) ∙ dies-last net kn (l .frame) D m (c .before .before .before .before .before .mark-frame2 .result) (c .pins-die .result) (c .before .before .before .before .before .mark-frame2 .ensures .1) q ∙ sym (l .inv .3 ∙ ap (λ (r : ℕ). effectDies net kn r (l .frame) D m) z)
+    let q = c .pins-untouched-at .ensures ∙ ap (λ (x : List ℕ). every (latchedUntouched (latchedMarks net D (λ i. kn i (l .frame)) (at x))) (net .size)) (c .before .before .before .before .before .mark-frame2 .ensures .0) in
+    ap (λ (b : Bool). b && c .pins-untouched-at .result) (sym (c .before .before .if2 .taken)) ∙ dies-last net kn (l .frame) D m (c .before .before .before .before .before .mark-frame2 .result) (c .pins-untouched-at .result) (c .before .before .before .before .before .mark-frame2 .ensures .1) q ∙ sym (l .inv .3 ∙ ap (λ (r : ℕ). effectDies net kn r (l .frame) D m) z)
 
 -- src/trace.rt:239:1
 same-length-3 : tie.Need-same-length-3 Inv-loop μ-loop
@@ -150,7 +150,7 @@ dies-from-spec =
     loop-less
     loop-again
     mark-frame-requires-2
-    pins-die-requires
+    pins-untouched-at-requires
     same-length-2
     returns-2
     same-length-3

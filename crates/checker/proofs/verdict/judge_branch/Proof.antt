@@ -6,7 +6,7 @@ use native.Mathlib.Omega.{arith}
 use mathlib.Core.Path.{_≡_, _∙_, ap, sym, subst}
 use mathlib.Core.List.{List, [], _∷_}
 use mathlib.Core.Bool.{Bool}
-use lib.ListN.{drop, length}
+use lib.ListN.{length}
 use denote.Ref.{now}
 use borrow.Author.Tests.{not-true, not-false}
 use borrow.Author.Needs.{needs}
@@ -17,8 +17,8 @@ use Rattle.circuit.proofs.ClockLaws.{sound-ordered}
 use Rattle.checker.specs.declared.step.Step.{Step}
 use Rattle.checker.specs.Window.{Entered, Holds, begin, beginIn, enterAt, knownIn, presentBelow}
 use Rattle.checker.specs.Trace.{Traced}
-use Rattle.checker.specs.Checker.{follows, replay}
-use Rattle.checker.specs.Certificate.{stepOf, stepsIn}
+use Rattle.checker.specs.Checker.{replay}
+use Rattle.checker.specs.Certificate.{stepsIn}
 use Rattle.checker.proofs.ReplayLaws.{Reached, after-contradiction, begin-full, judged-contradicted, judged-refused, judged-traced, not-following, step-entered, end-left, read-left, stepsLeft}
 use Rattle.checker.proofs.verdict.judge_branch.Statement.{statement}
 use Rattle.checker.proofs.verdict.judge_branch.Tie as tie

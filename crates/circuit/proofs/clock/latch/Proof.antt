@@ -9,7 +9,7 @@ use Rattle.circuit.specs.Fault.{linesIn}
 use Rattle.circuit.specs.Netlist.{netOf}
 use denote.Ref.{now}
 use lib.ListN.{length}
-use mathlib.Core.Path.{_≡_, ap, refl, sym, _∙_}
+use mathlib.Core.Path.{_≡_, ap, refl, _∙_}
 use Prim.Native.Nat.{_≤_, _-_}
 use Rattle.circuit.proofs.clock.latch.Statement.{statement}
 use Rattle.circuit.proofs.clock.latch.Tie as tie

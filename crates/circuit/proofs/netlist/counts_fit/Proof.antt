@@ -8,7 +8,6 @@ use mathlib.Core.Path.{_≡_, refl, sym, _∙_}
 use native.Mathlib.Omega.{arith}
 use borrow.Author.Needs.{needs}
 use Rattle.values.specs.Lists.{every}
-use Rattle.values.proofs.ListLaws.{every-more, every-fails}
 use Rattle.circuit.proofs.netlist.counts_fit.Statement.{statement}
 use Rattle.circuit.proofs.netlist.counts_fit.Tie as tie
 use Rattle.circuit.proofs.netlist.counts_fit.Reads as reads

@@ -6,11 +6,9 @@ use Rattle.circuit.specs.Netlist.{pairJoined, pairStart}
 use denote.Ref.{now}
 use Prim.Native.Nat.{_≤_, _-_}
 use mathlib.Core.Bool.{true}
-use mathlib.Core.Path.{_≡_, refl}
 use native.Mathlib.Omega.{arith}
 use borrow.Author.Needs.{needs}
 use Rattle.values.specs.Lists.{every}
-use Rattle.values.proofs.ListLaws.{every-more, every-fails}
 use Rattle.circuit.proofs.netlist.pairs_joined.Statement.{statement}
 use Rattle.circuit.proofs.netlist.pairs_joined.Tie as tie
 use Rattle.circuit.proofs.netlist.pairs_joined.Reads as reads

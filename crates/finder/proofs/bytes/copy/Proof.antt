@@ -1,11 +1,10 @@
 use native.Mathlib.Omega.{arith}
 use denote.Ref.{now}
 use Rattle.finder.proofs.WitnessLaws.{copy-more}
-use Rattle.values.specs.Lists.{at}
 use lib.Seq.{take-all}
 use lib.ListN.{length, length-set, take}
-use mathlib.Core.Path.{_≡_, refl, sym, _∙_, ap}
-use Prim.Native.Nat.{_≤_, _-_, _<_}
+use mathlib.Core.Path.{_≡_, refl, sym, _∙_}
+use Prim.Native.Nat.{_≤_, _-_}
 use Rattle.finder.proofs.bytes.copy.Statement.{statement}
 use Rattle.finder.proofs.bytes.copy.Tie as tie
 use Rattle.finder.proofs.bytes.copy.Reads as reads

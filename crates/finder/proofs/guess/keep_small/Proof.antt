@@ -4,8 +4,7 @@ use mathlib.Core.Path.{_≡_, refl}
 use lib.ListN.{length, length-set}
 use borrow.Author.Needs.{needs}
 use Rattle.values.specs.Lists.{at}
-use Rattle.finder.proofs.SmallLaws.{small-everywhere}
-use Rattle.finder.proofs.WitnessLaws.{small-more}
+use Rattle.finder.proofs.SmallLaws.{small-everywhere, small-more}
 use Rattle.finder.proofs.guess.keep_small.Statement.{statement}
 use Rattle.finder.proofs.guess.keep_small.Tie as tie
 use Rattle.finder.proofs.guess.keep_small.Reads as reads

@@ -1,6 +1,6 @@
 use Prim.Native.Nat.{ℕ, _+_, _*_, _≤_}
 use native.Mathlib.Omega.{arith}
-use mathlib.Core.Path.{_≡_, ap}
+use mathlib.Core.Path.{ap}
 use denote.Ref.{now}
 use lib.ListN.{take}
 use Rattle.circuit.specs.Netlist.{netOf, pinCount}

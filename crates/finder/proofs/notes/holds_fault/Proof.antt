@@ -2,7 +2,7 @@ use mathlib.Core.Bool.{false≢true}
 use Rattle.circuit.specs.Fault.{linesIn}
 use Prim.Native.Nat.{ℕ, _+_, _*_, _-_, _<_, _≤_}
 use native.Mathlib.Omega.{arith}
-use mathlib.Core.Path.{_≡_, _∙_, ap, refl, sym}
+use mathlib.Core.Path.{_≡_, _∙_, ap, sym}
 use denote.Ref.{now}
 use borrow.Author.Needs.{needs}
 use Rattle.values.specs.Lists.{at}

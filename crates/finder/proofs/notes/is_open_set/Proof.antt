@@ -16,7 +16,8 @@ use Rattle.checker.specs.Trace.{Traced}
 use Rattle.checker.specs.Window.{knownIn, presentBelow}
 use Rattle.finder.specs.Work.{HasHeld, tally, work}
 use Rattle.finder.proofs.CalmLaws.{calm-none}
-use Rattle.finder.proofs.GuessLaws.{guess-open, tally-start}
+use Rattle.finder.proofs.GuessLaws.{guess-open}
+use Rattle.finder.proofs.WorkLaws.{open-tally}
 use Rattle.finder.proofs.StandsLaws.{window-few}
 use borrow.Author.Needs.{needs}
 use Rattle.finder.proofs.notes.is_open_set.Statement.{statement}
@@ -70,7 +71,7 @@ sweep-window-requires c κs = let a = c .before .before .before .before .before 
     let W = a .c + a .f + 1 in
     let few : net .size * W ≤ 61440 = window-few s (a .n) (pinCount s) W (p .0) (p .1 .1 .0) in
     let m = p .1 .1 .1 .0 ∙ ap (λ (x : ℕ). x * W) size in
-    (p .0, (omega (arith, tally-start (now (a .known)) [], few, m), calm-none net (presentBelow (a .c) (linesOf (a .fault))) 15 _))
+    (p .0, (omega (arith, open-tally (now (a .known)) [], few, m), calm-none net (presentBelow (a .c) (linesOf (a .fault))) 15 _))
 
 -- src/notes.rt:92:9
 same-length-2 : tie.Need-same-length-2

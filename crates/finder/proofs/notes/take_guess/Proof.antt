@@ -1,7 +1,6 @@
 use Prim.Native.Nat.{_-_}
-use native.Mathlib.Omega.{arith}
-use mathlib.Core.Path.{_≡_, _∙_, refl}
-use lib.ListN.{length, length-set}
+use mathlib.Core.Path.{_≡_, refl}
+use lib.ListN.{length}
 use borrow.Author.Needs.{needs}
 use Rattle.finder.proofs.notes.take_guess.Statement.{statement}
 use Rattle.finder.proofs.notes.take_guess.Tie as tie

@@ -1,10 +1,10 @@
 use native.Mathlib.Omega.{arith}
 use borrow.Author.Needs.{needs}
-use Rattle.finder.proofs.WitnessLaws.{small-more}
 use Rattle.values.specs.Lists.{at}
 use lib.ListN.{length, length-set}
 use mathlib.Core.Path.{_≡_, refl}
 use Prim.Native.Nat.{ℕ, _≤_, _<_, _-_}
+use Rattle.finder.proofs.SmallLaws.{small-more}
 use Rattle.finder.proofs.random.draw.Statement.{statement}
 use Rattle.finder.proofs.random.draw.Tie as tie
 use Rattle.finder.proofs.random.draw.Reads as reads

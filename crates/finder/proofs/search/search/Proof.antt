@@ -47,7 +47,7 @@ unfolding answerFor bytesFor
 returns c = let a = c .before .before .before .before .before .before .before .before .before .before .before .before .before .before .before .before .before .before .before .before .args in
     let net = netOf (now (a .netlist)) in
     let s = c .before .before .before .before .before .before .before .before .before .before .before .before .before .first-split in
-    let e : none ≡ firstSplit net (a .fault) (a .f) (a .b) = ap (λ (t : Bool). cond t (some (s .result)) none) (sym (lt-leb (s .result .c) (a .b) (c .before .before .before .before .before .before .before .before .if1 .taken))) ∙ s .ensures .0 in
+    let e : none ≡ firstSplit net (a .fault) (a .b) (a .f) = ap (λ (t : Bool). cond t (some (s .result)) none) (sym (lt-leb (s .result .c) (a .b) (c .before .before .before .before .before .before .before .before .if1 .taken))) ∙ s .ensures .0 in
     let k = c .before .before .before .before .before .before .fill .ensures ∙ ap (λ (x : ℕ). replicate x 0) (s .kept .1 .1 .1 .1 .1 .0) in
     let m = c .before .before .fill2 .ensures ∙ ap (λ (x : ℕ). replicate x 0) (s .kept .1 .1 .1 .1 .1 .1 .0) in
     λ i. finderOutcome (answerFor net (a .fault) (a .f) (e i)) (k i) (m i) (written (bytesFor net (a .fault) (a .f) (e i)) (now (a .certificate)))
@@ -158,7 +158,7 @@ returns-2 c = let a = c .before .before .before .before .before .before .before 
     let s = c .before .before .before .before .before .before .before .before .before .before .before .before .before .before .before .before .before .before .before .before .first-split in
     let r = s .result in
     let w = c .before .before .before .before .before .before .before .before .before .before .before .before .write-certificate in
-    let e : some r ≡ firstSplit net (a .fault) (a .f) (a .b) = ap (λ (t : Bool). cond t (some r) none) (sym (le-leb (r .c) (a .b) (c .before .before .before .before .before .before .before .before .before .before .before .before .before .before .before .if1 .left))) ∙ s .ensures .0 in
+    let e : some r ≡ firstSplit net (a .fault) (a .b) (a .f) = ap (λ (t : Bool). cond t (some r) none) (sym (le-leb (r .c) (a .b) (c .before .before .before .before .before .before .before .before .before .before .before .before .before .before .before .if1 .left))) ∙ s .ensures .0 in
     let l = ap (λ (x : ℕ). 25 + 7 * x) (w .ensures .0) ∙ sym (certificate-length net (a .fault) (a .f) r) in
     let n = length-front (s .last .1 .1 .1 .1 .1 .0) (w .last .1 .1 .1 .1 .1 .0) (a .n * (r .c + a .f + 1)) (w .kept .1 .1 .1 .1 .1 .0) ∙ s .kept .1 .1 .1 .1 .1 .0 in
     let k = c .before .before .before .before .before .before .fill3 .ensures ∙ ap (λ (x : ℕ). replicate x 0) n in

@@ -1,4 +1,4 @@
-use Prim.Native.Nat.{ℕ, suc, _+_, _*_, _-_, _≤_}
+use Prim.Native.Nat.{ℕ, suc, _+_, _*_, _≤_}
 use native.Mathlib.Omega.{arith}
 use mathlib.Core.Path.{_≡_, _∙_, ap, subst, sym}
 use denote.Ref.{now}

@@ -9,7 +9,7 @@ use Rattle.circuit.proofs.SoundLaws.{sound-size}
 use denote.Ref.{now}
 use lib.ListN.{length}
 use mathlib.Core.Path.{_≡_, subst, sym, _∙_}
-use Prim.Native.Nat.{ℕ, suc, _-_, _<_}
+use Prim.Native.Nat.{ℕ, suc, _-_}
 use Rattle.finder.proofs.witness.lead_in.Statement.{statement}
 use Rattle.finder.proofs.witness.lead_in.Tie as tie
 use Rattle.finder.proofs.witness.lead_in.Reads as reads

@@ -4,7 +4,6 @@ use Rattle.circuit.specs.Fault.{linesIn}
 use Rattle.circuit.proofs.SoundLaws.{sound-size}
 use Rattle.circuit.proofs.ClockLaws.{sound-ordered}
 use denote.Ref.{now}
-use mathlib.Core.Path.{_≡_, sym, _∙_}
 use borrow.Author.Needs.{needs}
 use Rattle.finder.proofs.witness.run_clock.Statement.{statement}
 use Rattle.finder.proofs.witness.run_clock.Tie as tie

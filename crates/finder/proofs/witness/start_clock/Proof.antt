@@ -4,10 +4,10 @@ use denote.Ref.{now}
 use Rattle.finder.proofs.WitnessLaws.{start-more}
 use Rattle.circuit.specs.ClockLists.{clockStart}
 use Rattle.circuit.specs.Netlist.{netOf}
-use Rattle.values.specs.Lists.{at, table}
+use Rattle.values.specs.Lists.{table}
 use Rattle.values.proofs.ListLaws.{build-end, build-none}
 use lib.ListN.{drop, length, length-set}
-use mathlib.Core.Path.{_≡_, refl, sym, _∙_, ap}
+use mathlib.Core.Path.{_≡_, _∙_}
 use mathlib.Core.List.{_++_}
 use Prim.Native.Nat.{_≤_, _-_, _<_}
 use Rattle.finder.proofs.witness.start_clock.Statement.{statement}

@@ -5,7 +5,7 @@ use Rattle.circuit.specs.Netlist.{netOf, pinCount}
 use Rattle.circuit.specs.Fault.{linesOf}
 use Rattle.circuit.proofs.SoundLaws.{sound-size}
 use denote.Ref.{now}
-use mathlib.Core.Path.{_∙_, subst, sym}
+use mathlib.Core.Path.{_∙_}
 use borrow.Author.Needs.{needs}
 use Rattle.finder.proofs.witness.trial.Statement.{statement}
 use Rattle.finder.proofs.witness.trial.Tie as tie

@@ -1,4 +1,4 @@
-use Prim.Native.Nat.{suc, _+_, _/_}
+use Prim.Native.Nat.{suc, _+_}
 use native.Mathlib.Omega.{arith}
 use mathlib.Core.Path.{_≡_}
 use borrow.Author.Needs.{needs}

@@ -13,7 +13,7 @@ use Rattle.finder.proofs.writer.write_head.Lts as lts
 use Rattle.values.proofs.store.Reads as store-reads
 use Rattle.finder.proofs.writer.put_u16.Reads as put-u16-reads
 use Rattle.finder.proofs.writer.put_u32.Reads as put-u32-reads
-use Rattle.finder.proofs.writer.site_byte.Reads as site-byte-reads
+use Rattle.circuit.proofs.site_byte.Reads as site-byte-reads
 
 -- src/writer.rt:83:5
 put-u16-requires : tie.Need-put-u16-requires

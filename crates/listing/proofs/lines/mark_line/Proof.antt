@@ -1,6 +1,6 @@
 use Rattle.listing.proofs.TextLaws.{run-by, runs}
 use Rattle.listing.specs.Lines.{field, lineFeed, markLine, space}
-use Rattle.finder.specs.Written.{siteByte}
+use Rattle.circuit.specs.Fault.{siteByte}
 use Rattle.checker.specs.Certificate.{splitFrame, splitNode}
 use native.Mathlib.Omega.{arith}
 use mathlib.Core.Path.{_∙_, _≡_}
@@ -14,7 +14,7 @@ use Rattle.values.proofs.byte_at.Reads as byte-at-reads
 use Rattle.values.proofs.tail.Reads as tail-reads
 use Rattle.values.proofs.u16_at.Reads as u16-at-reads
 use Rattle.listing.proofs.lines.put_field.Reads as put-field-reads
-use Rattle.listing.proofs.lines.site_byte.Reads as site-byte-reads
+use Rattle.circuit.proofs.site_byte.Reads as site-byte-reads
 
 -- src/lines.rt:73:9
 tail-requires : tie.Need-tail-requires

@@ -8,10 +8,10 @@ use Rattle.values.specs.Lists.{at, every}
 use Rattle.circuit.specs.Fault.{linesIn}
 use Rattle.checker.proofs.WindowLaws.{frame-values}
 use borrow.Author.Needs.{needs}
-use Rattle.checker.proofs.trace.pins_die.Statement.{statement}
-use Rattle.checker.proofs.trace.pins_die.Tie as tie
-use Rattle.checker.proofs.trace.pins_die.Reads as reads
-use Rattle.checker.proofs.trace.pins_die.Lts as lts
+use Rattle.checker.proofs.trace.pins_untouched_at.Statement.{statement}
+use Rattle.checker.proofs.trace.pins_untouched_at.Tie as tie
+use Rattle.checker.proofs.trace.pins_untouched_at.Reads as reads
+use Rattle.checker.proofs.trace.pins_untouched_at.Lts as lts
 use Rattle.checker.proofs.trace.pins_untouched.Reads as pins-untouched-reads
 use Rattle.checker.proofs.window.place_of.Reads as place-of-reads
 use Rattle.values.proofs.tail.Reads as tail-reads
@@ -38,6 +38,6 @@ returns c = let a = c .before .before .before .before .before .before .args in
     let kn = frame-values (now (a .known)) (now (c .before .tail .result)) (a .n) (net .size) (a .frame) (c .before .tail .ensures ∙ ap (λ (k : ℕ). drop k (now (a .known))) (c .before .before .place-of .ensures)) size in
     c .pins-untouched .ensures ∙ (λ i. every (latchedUntouched (latchedMarks net D (kn i) (at (take (a .n) l)))) (size i))
 
-pub pins-die-spec : {M : Type 1} → statement M
-pins-die-spec =
+pub pins-untouched-at-spec : {M : Type 1} → statement M
+pins-untouched-at-spec =
     tie.close (tie.spec place-of-requires tail-requires pins-untouched-requires returns)
