@@ -6,7 +6,7 @@ use mathlib.Core.Path.{_∙_, _≡_, ap, refl, sym}
 use Prim.Native.Nat.{_<_, _≤_, suc, zero, ℕ}
 use native.Mathlib.Omega.{arith}
 use lib.ListN.{drop, length}
-use borrow.Author.Tests.{eqb-true}
+use borrow.Author.Tests.{eqb-true, ne-eqb}
 use Rattle.values.proofs.GateLaws.{Refines, RefinesAll, indexed-refines, stuck-mono}
 use Rattle.values.proofs.ListLaws.{Below, below-table, build-agree, build-end, build-read, build-rest, build-same, getD-build, indexed-agree, length-build, rewritten-build}
 use Rattle.values.proofs.ValueLaws.{stuck-free, stuck-known}
@@ -133,6 +133,14 @@ module _ (c : Net) (s : StuckLines) where
   pub latched-at : (v : ℕ → ℕ) (n : ℕ) → n < c .size → at (latchedList c s v) n ≡ latchedBy c s v n
   unfolding latchedList
   latched-at v n h = getD-build (λ _. latchedBy c s v) 0 (c .size) h
+
+  -- 0 at other nodes: nothing is latched where there is no flip-flop
+  pub latched-other : (v : ℕ → ℕ) (n : ℕ) → (c .kind n ≡ 2 → ⊥) → latchedBy c s v n ≡ 0
+  unfolding latchedBy
+  latched-other v n h = rw (ne-eqb (c .kind n) 2 h)
+
+  pub latched-zero : (v : ℕ → ℕ) (n : ℕ) → n < c .size → (c .kind n ≡ 2 → ⊥) → at (latchedList c s v) n ≡ 0
+  latched-zero v n h k = latched-at v n h ∙ latched-other v n k
 
   -- A loop that writes the seen values over what the step was given, by rising node, e being the slice when node i is reached:
   -- the node's value, read and given from e, is the next one of the list.
