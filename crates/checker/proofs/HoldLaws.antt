@@ -1,6 +1,6 @@
 -- How knowledge lies in a work slice: values that are stored there are known, and nothing else changes.
 use mathlib.Core.Bool.{Bool, _&&_, cond, false, true, true≢false}
-use mathlib.Core.List.{List, []}
+use mathlib.Core.List.{List, [], _++_, _∷_}
 use mathlib.Core.Path.{_∙_, _≡_, ap, refl, subst, sym}
 use Prim.Native.Nat.{_%_, _*_, _+_, _/_, _<_, _≤_, suc, zero, ℕ}
 use native.Mathlib.Decide.{decLt, ℕ-discrete}
@@ -13,16 +13,16 @@ use lib.ListN.{getD, getD-replicate, length, length-replicate, length-set, repli
 use lib.Seq.{getD-set-other, getD-set-same}
 use Rattle.checker.proofs.RelationLaws.{absent-from, present-below}
 use Rattle.checker.proofs.WindowLaws.{begin-cases, enter-cases}
-use Rattle.checker.specs.declared.step.Step.{Step}
 use Rattle.checker.specs.Window.{Branch, Entered, Holds, begin, beginAt, beginIn, enter, enterAt, entered, held, holdFrames, known, presentBelow}
 use Rattle.values.proofs.BoolLaws.{and-left, and-right}
 use Rattle.circuit.proofs.FaultLaws.{other-nodes}
-use Rattle.values.proofs.ValueLaws.{stuck-free, stuck-known, unknown-free}
+use Rattle.values.proofs.ValueLaws.{differing, known-low, stuck-free, stuck-known, unknown-free, unknown-high}
 use Rattle.circuit.specs.Fault.{StuckLines, faultExists, isWhole, linesOf, noneStuck, siteExists}
 use Rattle.values.specs.Lists.{at}
 use Rattle.circuit.specs.Netlist.{Net}
 use Rattle.values.specs.Value.{differ, isUnknown, stuckOr}
 use Rattle.circuit.specs.declared.fault.Fault.{Fault}
+use Rattle.checker.specs.declared.step.Step.{Step}
 
 -- the place of a node at a frame lies in the window, and no other node and frame has it
 pub place-within : (N W n t : ℕ) → n < N → t < W → t * N + n < N * W
@@ -192,6 +192,39 @@ module _ (net : Net) where
         go (suc zero) (suc zero) h e = refl
         go (suc zero) (suc (suc v)) h e = absurd (omega arith)
         go (suc (suc x)) v h e = refl
+
+  -- a branch after a step, by whether nothing is known at the step's place
+  module _ (S : ℕ → StuckLines) (b : Branch) (s : Step) where
+    stepped : Bool → Branch
+    stepped q =
+        elim q [
+          | true ↦ record { values = set (b .values) (s .frame * net .size + s .node) (s .value); steps = b .steps ++ (s ∷ []); closed = false }
+          | false ↦ record { values = b .values; steps = b .steps ++ (s ∷ []); closed = true }
+        ]
+
+    enter-is : (q : Bool) → isUnknown (known net S (b .values) (s .node) (s .frame)) ≡ q → enter net S b s ≡ stepped q
+    unfolding enter stepped
+    enter-is q e = ap stepped e
+
+    -- A conclusion opposite to a known value is the last step and closes the branch.
+    pub enter-closed : differ (known net S (b .values) (s .node) (s .frame)) (s .value) ≡ true → enter net S b s ≡ record { values = b .values; steps = b .steps ++ (s ∷ []); closed = true }
+    unfolding stepped
+    enter-closed e = enter-is false (known-low (known net S (b .values) (s .node) (s .frame)) (differing (known net S (b .values) (s .node) (s .frame)) (s .value) e .left-known))
+
+    -- Each new value is a step: the branch stays open,
+    pub enter-open : 2 ≤ known net S (b .values) (s .node) (s .frame)
+        → enter net S b s ≡ record { values = set (b .values) (s .frame * net .size + s .node) (s .value); steps = b .steps ++ (s ∷ []); closed = false }
+    unfolding stepped
+    enter-open h = enter-is true (unknown-high (known net S (b .values) (s .node) (s .frame)) h)
+
+    -- and the value is known then
+    pub enter-known : (W : ℕ) → length (b .values) ≡ net .size * W → s .node < net .size → s .frame < W → 2 ≤ known net S (b .values) (s .node) (s .frame)
+        → known net S (enter net S b s .values) (s .node) (s .frame) ≡ s .value
+    unfolding known
+    enter-known W l hn hf h =
+        ap (λ (x : Branch). known net S (x .values) (s .node) (s .frame)) (enter-open h)
+        ∙ ap (stuckOr (held net S (s .node) (s .frame))) (getD-set-same (b .values) (s .frame * net .size + s .node) (s .value) 2 (omega (arith, l, place-within (net .size) W (s .node) (s .frame) hn hf)))
+        ∙ sym (unknown-free (held net S (s .node) (s .frame)) (getD (b .values) (s .frame * net .size + s .node) 2) (s .value) (unknown-high _ h))
 
   -- a branch's start in a work slice that is a window of W frames
   module _ (f : Fault) (W : ℕ) (hf : f .node < net .size) (hu : f .stuck < 2) where

@@ -3,22 +3,22 @@ use mathlib.Core.Bool.{Bool, _&&_, cond, false, false≢true, not, true}
 use mathlib.Core.List.{List, [], _∷_}
 use mathlib.Core.Option.{Option, none, some}
 use mathlib.Core.Path.{_∙_, _≡_, ap, refl, subst, sym}
-use Prim.Native.Nat.{_<_, suc, zero, ℕ}
+use Prim.Native.Nat.{_*_, _<_, _≤_, suc, zero, ℕ}
 use native.Mathlib.Omega.{arith}
-use lib.Dec.{eqb, ltb}
+use lib.Dec.{eqb, leb, ltb}
 use lib.ListN.{length}
-use borrow.Author.Tests.{eq-eqb, eqb-false, eqb-true, lt-ltb, ltb-true, ne-eqb, not-true}
-use Rattle.checker.specs.Certificate.{cOf, fOf, faultOf, framesOf, splitFrame, splitNode, stepsOf}
-use Rattle.checker.specs.Checker.{CheckerCall, accepted, branchCloses, checkerTests, checking, follows, judged, judgement, replay, replayed, sameStep, stepWithin, turnedBack, verdict}
+use borrow.Author.Tests.{eq-eqb, eqb-false, eqb-true, le-leb, le-ltb, lt-leb, lt-ltb, ltb-true, ne-eqb, not-true}
+use Rattle.checker.specs.Certificate.{cOf, fOf, faultOf, framesOf, pairsRight, splitFrame, splitNode, stepsOf}
+use Rattle.checker.specs.Checker.{CheckerCall, accepted, branchCloses, checkerTests, checking, follows, judged, judgement, replay, replayed, sameStep, stepWithin, turnedBack, verdict, windowSize}
 use Rattle.checker.specs.Window.{Branch, begin, conclusion, enter, inForce, known, presentBelow}
 use Rattle.checker.specs.declared.verdict.Judgement.{Judgement}
 use Rattle.checker.specs.declared.step.Step.{Step}
 use Rattle.values.proofs.BoolLaws.{and-left, and-right}
 use Rattle.values.proofs.ListLaws.{any-by, any-found}
-use Rattle.circuit.proofs.RefusalLaws.{FirstFails, NoneSmaller, Passed, refusal-at, refusal-by, refusal-none, refusal-smallest, refusal-some}
-use Rattle.circuit.proofs.SoundLaws.{answered-sound}
+use Rattle.circuit.proofs.RefusalLaws.{FirstFails, NoneSmaller, Passed, fails-here, fails-later, refusal-at, refusal-by, refusal-none, refusal-smallest, refusal-some}
+use Rattle.circuit.proofs.SoundLaws.{answered-sound, sound-size}
 use Rattle.circuit.specs.Answer.{Answer, Outcome, answered, refusal, refused}
-use Rattle.circuit.specs.Fault.{StuckLines, linesOf}
+use Rattle.circuit.specs.Fault.{StuckLines, faultExists, linesOf}
 use Rattle.values.specs.Lists.{any}
 use Rattle.circuit.specs.Netlist.{Net, netOf, nodeCount, pinCount, reading, sound}
 
@@ -231,6 +231,71 @@ module _ (a : CheckerCall) where
 -- the head tests stand in the order of their numbers, so the smallest number that applies is given
 pub checking-smallest : (a : CheckerCall) (k : ℕ) → FirstFails a k checkerTests → NoneSmaller k checkerTests a
 checking-smallest a k f = refusal-smallest 0 checkerTests a k (omega arith, (omega arith, (omega arith, (omega arith, (omega arith, tt))))) f
+
+-- The head tests of a sound netlist of n nodes, one after the other. A refusal alters nothing.
+module _ (a : CheckerCall) (n p : ℕ) (e : reading (a .netlist) ≡ sound n p) where
+  -- 8: certificate under 25 bytes
+  pub short-certificate : length (a .certificate) < 25 → checking a ≡ turnedBack 8 a
+  short-certificate h = checking-refused a 8 e (fails-here (rw (lt-leb 25 (length (a .certificate)) h)) refl)
+
+  module _ (head : 25 ≤ length (a .certificate)) where
+    -- 8: or pairs wrong
+    pub wrong-pairs : pairsRight (a .certificate) ≡ false → checking a ≡ turnedBack 8 a
+    wrong-pairs h = checking-refused a 8 e (fails-here (rw (le-leb 25 (length (a .certificate)) head, h)) refl)
+
+    module _ (pairs : pairsRight (a .certificate) ≡ true) where
+      t₈ : (leb 25 (length (a .certificate)) && pairsRight (a .certificate)) ≡ true
+      t₈ = rw (le-leb 25 (length (a .certificate)) head, pairs)
+
+      -- 9: no such node or site, or u above 1
+      pub no-fault : faultExists (netOf (a .netlist)) (faultOf (a .certificate)) ≡ false → checking a ≡ turnedBack 9 a
+      no-fault h = checking-refused a 9 e (fails-later t₈ (fails-here h refl))
+
+      module _ (t₉ : faultExists (netOf (a .netlist)) (faultOf (a .certificate)) ≡ true) where
+        -- 10: W above 15
+        pub too-wide : 15 < framesOf (a .certificate) → checking a ≡ turnedBack 10 a
+        too-wide h = checking-refused a 10 e (fails-later t₈ (fails-later t₉ (fails-here (lt-leb (framesOf (a .certificate)) 15 h) refl)))
+
+        module _ (narrow : framesOf (a .certificate) ≤ 15) where
+          t₁₀ : leb (framesOf (a .certificate)) 15 ≡ true
+          t₁₀ = le-leb (framesOf (a .certificate)) 15 narrow
+
+          window : n * framesOf (a .certificate) ≡ windowSize a
+          window = ap (λ (x : ℕ). x * framesOf (a .certificate)) (sound-size (a .netlist) n p e)
+
+          -- 11: a work slice under N × W bytes
+          pub short-first : length (a .first) < n * framesOf (a .certificate) → checking a ≡ turnedBack 11 a
+          short-first h =
+              let l : length (a .first) < windowSize a = omega (arith, window) in
+              checking-refused a 11 e (fails-later t₈ (fails-later t₉ (fails-later t₁₀ (fails-here (rw (lt-leb (windowSize a) (length (a .first)) l)) refl))))
+
+          module _ (first : n * framesOf (a .certificate) ≤ length (a .first)) where
+            fits-first : leb (windowSize a) (length (a .first)) ≡ true
+            fits-first = le-leb (windowSize a) (length (a .first)) (omega (arith, window))
+
+            pub short-second : length (a .second) < n * framesOf (a .certificate) → checking a ≡ turnedBack 11 a
+            short-second h =
+                let l : length (a .second) < windowSize a = omega (arith, window) in
+                checking-refused a 11 e (fails-later t₈ (fails-later t₉ (fails-later t₁₀ (fails-here (rw (fits-first, lt-leb (windowSize a) (length (a .second)) l)) refl))))
+
+            module _ (second : n * framesOf (a .certificate) ≤ length (a .second)) where
+              t₁₁ : (leb (windowSize a) (length (a .first)) && leb (windowSize a) (length (a .second))) ≡ true
+              t₁₁ = rw fits-first (le-leb (windowSize a) (length (a .second)) (omega (arith, window)))
+
+              wrong-split : (ltb (splitNode (a .certificate)) (netOf (a .netlist) .size) && ltb (splitFrame (a .certificate)) (framesOf (a .certificate))) ≡ false → checking a ≡ turnedBack 13 a
+              wrong-split h = checking-refused a 13 e (fails-later t₈ (fails-later t₉ (fails-later t₁₀ (fails-later t₁₁ (fails-here h refl)))))
+
+              -- 13: split node N or above
+              pub split-node-outside : n ≤ splitNode (a .certificate) → checking a ≡ turnedBack 13 a
+              split-node-outside h =
+                  let l : netOf (a .netlist) .size ≤ splitNode (a .certificate) = omega (arith, sound-size (a .netlist) n p e) in
+                  wrong-split (rw (le-ltb (splitNode (a .certificate)) (netOf (a .netlist) .size) l))
+
+              -- 13: or split frame W or above
+              pub split-frame-outside : splitNode (a .certificate) < n → framesOf (a .certificate) ≤ splitFrame (a .certificate) → checking a ≡ turnedBack 13 a
+              split-frame-outside g h =
+                  let l : splitNode (a .certificate) < netOf (a .netlist) .size = omega (arith, sound-size (a .netlist) n p e) in
+                  wrong-split (rw (lt-ltb (splitNode (a .certificate)) (netOf (a .netlist) .size) l, le-ltb (splitFrame (a .certificate)) (framesOf (a .certificate)) h))
 
 -- the stuck lines of each frame of the certificate's window
 abbrev pub windowLines : List ℕ → ℕ → StuckLines

@@ -1,23 +1,24 @@
 -- Laws of the simulator's answer: when it is done, and that it has then made one clock step of a run.
-use mathlib.Core.Bool.{_&&_, true}
+use mathlib.Core.Bool.{Bool, _&&_, _||_, false, not, true}
 use mathlib.Core.List.{List, []}
+use mathlib.Core.Logic.{⊎-elim}
 use mathlib.Core.Option.{Option, none, some}
 use mathlib.Core.Path.{_∙_, _≡_, ap, refl}
-use Prim.Native.Nat.{_<_, ℕ}
+use Prim.Native.Nat.{_<_, _≤_, ℕ}
 use native.Mathlib.Omega.{arith}
 use lib.Dec.{eqb, leb}
 use lib.ListN.{length}
-use borrow.Author.Tests.{eq-eqb, eqb-true, leb-true, ne-eqb}
+use borrow.Author.Tests.{eq-eqb, eqb-true, le-leb, leb-true, ne-eqb}
 use Rattle.values.proofs.BoolLaws.{and-left, and-right, implied}
-use Rattle.values.proofs.ListLaws.{every-at}
-use Rattle.circuit.proofs.ClockLaws.{latched-into, settled-seen, sound-ordered}
+use Rattle.values.proofs.ListLaws.{every-at, every-by}
+use Rattle.circuit.proofs.ClockLaws.{given-kind, latched-into, settled-seen, sound-ordered}
 use Rattle.circuit.proofs.RefusalLaws.{FirstFails, NoneSmaller, Passed, refusal-at, refusal-by, refusal-none, refusal-smallest}
 use Rattle.circuit.proofs.RunLaws.{stepped-clock}
 use Rattle.circuit.proofs.SoundLaws.{answered-sound, sound-size}
 use Rattle.circuit.specs.Answer.{Answer, Outcome, answered, outcome, refusal, refused}
 use Rattle.circuit.specs.Clock.{SimulatorCall, latchedInto, placeFits, seenList, settled, simulation, simulatorTests, slicesFit, clockStep, turnedBack}
 use Rattle.circuit.specs.ClockLists.{InputBits, LatchedBits, latchedAfter, seenAfter}
-use Rattle.circuit.specs.Fault.{linesIn}
+use Rattle.circuit.specs.Fault.{circuitExists, linesIn}
 use Rattle.values.specs.Kind.{isGiven}
 use Rattle.values.specs.Lists.{at, every}
 use Rattle.circuit.specs.Netlist.{Net, netOf, nodeCount, pinCount, reading, sound}
@@ -87,6 +88,20 @@ slices-fitting c first second e =
         let l = leb-true (at first n) 1 (implied (isGiven (c .kind n)) (leb (at first n) 1) (every-at (placeFits c first) (c .size) (and-right (eqb (length second) (c .size)) (every (placeFits c first) (c .size)) rest) n h) q) in
         omega arith
 
+-- and slices are fitting that hold this much
+pub fitting-slices : (c : Net) (first second : List ℕ) → Fitting c first second → slicesFit c first second ≡ true
+unfolding slicesFit placeFits InputBits LatchedBits
+fitting-slices c first second f =
+    rw (eq-eqb (length first) (c .size) (f .first-size), eq-eqb (length second) (c .size) (f .second-size))
+    (every-by (placeFits c first) (c .size) (λ n h. go n h (isGiven (c .kind n)) refl))
+  where
+    low : (n : ℕ) → n < c .size → isGiven (c .kind n) ≡ true → at first n < 2
+    low n h q = ⊎-elim (f .inputs n h) (f .latched n h) (given-kind (c .kind n) q)
+
+    go : (n : ℕ) → n < c .size → (b : Bool) → isGiven (c .kind n) ≡ b → (not b || leb (at first n) 1) ≡ true
+    go n h true q = let l = low n h q in le-leb (at first n) 1 (omega arith)
+    go n h false q = refl
+
 -- the two halves of a clock step, one after the other on slices that fit, make the step
 pub step-halves : (a : SimulatorCall) (n p : ℕ) → reading (a .netlist) ≡ sound n p → Fitting (netOf (a .netlist)) (a .first) (a .second)
     → outcome (answered []) (settled (netOf (a .netlist)) (linesIn (a .circuit)) n (a .first)) (latchedInto (netOf (a .netlist)) (linesIn (a .circuit)) (at (settled (netOf (a .netlist)) (linesIn (a .circuit)) n (a .first))) n (a .second)) ≡ clockStep a
@@ -119,6 +134,12 @@ done-says a e = go (reading (a .netlist)) refl e
     go (answered vs) q e =
         let t = tests (refusal simulatorTests a) refl e in
         record { sound-netlist = answered-sound (a .netlist) vs q; passed = t; slices = slices-fitting (netOf (a .netlist)) (a .first) (a .second) (t .1 .0) }
+
+-- No clock is refused: with a sound netlist, the good circuit or a fault that exists, and slices that fit, the answer is done
+pub call-done : (a : SimulatorCall) (n p : ℕ) → reading (a .netlist) ≡ sound n p → circuitExists (netOf (a .netlist)) (a .circuit) ≡ true
+    → Fitting (netOf (a .netlist)) (a .first) (a .second) → simulation a .answer ≡ answered []
+unfolding clockStep
+call-done a n p e x f = ap (λ (o : Outcome). o .answer) (simulation-done a e (x, (fitting-slices (netOf (a .netlist)) (a .first) (a .second) f, tt)))
 
 -- done: one clock of a run, from the inputs and the latched values that the first slice held
 pub done-clock : (a : SimulatorCall) → simulation a .answer ≡ answered []
