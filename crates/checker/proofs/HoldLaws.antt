@@ -180,14 +180,14 @@ module _ (net : Net) where
 
   -- a branch after a step, by whether nothing is known at the step's place
   module _ (S : ℕ → StuckLines) (b : Branch) (s : Step) where
-    stepped : Bool → Branch
+    unfoldable pub stepped : Bool → Branch
     stepped q =
         elim q [
           | true ↦ record { values = set (b .values) (s .frame * net .size + s .node) (s .value); steps = b .steps ++ (s ∷ []); closed = false }
           | false ↦ record { values = b .values; steps = b .steps ++ (s ∷ []); closed = true }
         ]
 
-    enter-is : (q : Bool) → isUnknown (known net S (b .values) (s .node) (s .frame)) ≡ q → enter net S b s ≡ stepped q
+    pub enter-is : (q : Bool) → isUnknown (known net S (b .values) (s .node) (s .frame)) ≡ q → enter net S b s ≡ stepped q
     unfolding enter stepped
     enter-is q e = ap stepped e
 
