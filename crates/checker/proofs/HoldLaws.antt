@@ -174,6 +174,19 @@ module _ (net : Net) where
 
   -- a branch's start
   module _ (S : ℕ → StuckLines) (W n t v : ℕ) where
+    -- A split opposite to a held value is itself a contradiction and closes the branch with no step; any other is known.
+    pub begin-closed : differ (known net S [] n t) v ≡ true → begin net S W n t v ≡ record { values = replicate (net .size * W) 2; steps = []; closed = true }
+    begin-closed e =
+        begin-cases net S (λ (x : Branch). x ≡ record { values = replicate (net .size * W) 2; steps = []; closed = true }) W n t v
+        (λ z. refl)
+        (λ z. absurd (true≢false (sym e ∙ z)))
+
+    pub begin-open : differ (known net S [] n t) v ≡ false → begin net S W n t v ≡ record { values = set (replicate (net .size * W) 2) (t * net .size + n) v; steps = []; closed = false }
+    begin-open e =
+        begin-cases net S (λ (x : Branch). x ≡ record { values = set (replicate (net .size * W) 2) (t * net .size + n) v; steps = []; closed = false }) W n t v
+        (λ z. absurd (true≢false (sym z ∙ e)))
+        (λ z. refl)
+
     -- nothing but held values is known at the start
     pub start-known : n < net .size → t < W → known net S (replicate (net .size * W) 2) n t ≡ known net S [] n t
     unfolding known
@@ -193,29 +206,22 @@ module _ (net : Net) where
         go (suc zero) (suc (suc v)) h e = absurd (omega arith)
         go (suc (suc x)) v h e = refl
 
-  -- a branch after a step, by whether nothing is known at the step's place
+  -- a branch after a step
   module _ (S : ℕ → StuckLines) (b : Branch) (s : Step) where
-    stepped : Bool → Branch
-    stepped q =
-        elim q [
-          | true ↦ record { values = set (b .values) (s .frame * net .size + s .node) (s .value); steps = b .steps ++ (s ∷ []); closed = false }
-          | false ↦ record { values = b .values; steps = b .steps ++ (s ∷ []); closed = true }
-        ]
-
-    enter-is : (q : Bool) → isUnknown (known net S (b .values) (s .node) (s .frame)) ≡ q → enter net S b s ≡ stepped q
-    unfolding enter stepped
-    enter-is q e = ap stepped e
-
     -- A conclusion opposite to a known value is the last step and closes the branch.
     pub enter-closed : differ (known net S (b .values) (s .node) (s .frame)) (s .value) ≡ true → enter net S b s ≡ record { values = b .values; steps = b .steps ++ (s ∷ []); closed = true }
-    unfolding stepped
-    enter-closed e = enter-is false (known-low (known net S (b .values) (s .node) (s .frame)) (differing (known net S (b .values) (s .node) (s .frame)) (s .value) e .left-known))
+    enter-closed e =
+        enter-cases net S (λ (x : Branch). x ≡ record { values = b .values; steps = b .steps ++ (s ∷ []); closed = true }) b s
+        (λ z. absurd (true≢false (sym z ∙ known-low (known net S (b .values) (s .node) (s .frame)) (differing (known net S (b .values) (s .node) (s .frame)) (s .value) e .left-known))))
+        (λ z. refl)
 
     -- Each new value is a step: the branch stays open,
     pub enter-open : 2 ≤ known net S (b .values) (s .node) (s .frame)
         → enter net S b s ≡ record { values = set (b .values) (s .frame * net .size + s .node) (s .value); steps = b .steps ++ (s ∷ []); closed = false }
-    unfolding stepped
-    enter-open h = enter-is true (unknown-high (known net S (b .values) (s .node) (s .frame)) h)
+    enter-open h =
+        enter-cases net S (λ (x : Branch). x ≡ record { values = set (b .values) (s .frame * net .size + s .node) (s .value); steps = b .steps ++ (s ∷ []); closed = false }) b s
+        (λ z. refl)
+        (λ z. absurd (true≢false (sym (unknown-high (known net S (b .values) (s .node) (s .frame)) h) ∙ z)))
 
     -- and the value is known then
     pub enter-known : (W : ℕ) → length (b .values) ≡ net .size * W → s .node < net .size → s .frame < W → 2 ≤ known net S (b .values) (s .node) (s .frame)

@@ -1,10 +1,10 @@
 -- Laws of the simulator's answer: when it is done, and that it has then made one clock step of a run.
 use mathlib.Core.Bool.{Bool, _&&_, _||_, false, not, true}
-use mathlib.Core.List.{List, []}
+use mathlib.Core.List.{List, [], _∷_}
 use mathlib.Core.Logic.{⊎-elim}
 use mathlib.Core.Option.{Option, none, some}
-use mathlib.Core.Path.{_∙_, _≡_, ap, refl}
-use Prim.Native.Nat.{_<_, _≤_, ℕ}
+use mathlib.Core.Path.{_∙_, _≡_, ap, refl, subst, sym}
+use Prim.Native.Nat.{_<_, ℕ}
 use native.Mathlib.Omega.{arith}
 use lib.Dec.{eqb, leb}
 use lib.ListN.{length}
@@ -13,15 +13,16 @@ use Rattle.values.proofs.BoolLaws.{and-left, and-right, implied}
 use Rattle.values.proofs.ListLaws.{every-at, every-by}
 use Rattle.circuit.proofs.ClockLaws.{given-kind, latched-into, settled-seen, sound-ordered}
 use Rattle.circuit.proofs.RefusalLaws.{FirstFails, NoneSmaller, Passed, refusal-at, refusal-by, refusal-none, refusal-smallest}
-use Rattle.circuit.proofs.RunLaws.{stepped-clock}
+use Rattle.circuit.proofs.RunLaws.{SameAt, latchedAfter-binary, stepped-clock}
 use Rattle.circuit.proofs.SoundLaws.{answered-sound, sound-size}
 use Rattle.circuit.specs.Answer.{Answer, Outcome, answered, outcome, refusal, refused}
-use Rattle.circuit.specs.Clock.{SimulatorCall, latchedInto, placeFits, seenList, settled, simulation, simulatorTests, slicesFit, clockStep, turnedBack}
-use Rattle.circuit.specs.ClockLists.{InputBits, LatchedBits, latchedAfter, seenAfter}
+use Rattle.circuit.specs.Clock.{SimulatorCall, latchedInto, placeFits, seenList, settled, simulation, simulatorCall, simulatorTests, slicesFit, clockStep, turnedBack}
+use Rattle.circuit.specs.ClockLists.{ClockList, InputBits, LatchedBits, first-clock, latchedAfter, no-clocks, run, seenAfter}
 use Rattle.circuit.specs.Fault.{circuitExists, linesIn}
 use Rattle.values.specs.Kind.{isGiven}
 use Rattle.values.specs.Lists.{at, every}
 use Rattle.circuit.specs.Netlist.{Net, netOf, nodeCount, pinCount, reading, sound}
+use Rattle.circuit.specs.declared.fault.Circuit.{Circuit}
 
 module _ (a : SimulatorCall) where
   abbrev tested : Option ℕ → Outcome
@@ -88,7 +89,7 @@ slices-fitting c first second e =
         let l = leb-true (at first n) 1 (implied (isGiven (c .kind n)) (leb (at first n) 1) (every-at (placeFits c first) (c .size) (and-right (eqb (length second) (c .size)) (every (placeFits c first) (c .size)) rest) n h) q) in
         omega arith
 
--- and slices are fitting that hold this much
+-- and slices like these pass the test
 pub fitting-slices : (c : Net) (first second : List ℕ) → Fitting c first second → slicesFit c first second ≡ true
 unfolding slicesFit placeFits InputBits LatchedBits
 fitting-slices c first second f =
@@ -147,3 +148,47 @@ pub done-clock : (a : SimulatorCall) → simulation a .answer ≡ answered []
 done-clock a e =
     let d = done-says a e in
     simulation-done a (d .sound-netlist) (d .passed) ∙ stepped-clock a (a .first) (a .first) (λ _ _ _. refl) (λ _ _ _. refl)
+
+module _ (bs : List ℕ) (circuit : Circuit) where
+  -- A call for a clock with the inputs x and the values l latched: both slices have N bytes, and the first holds inputs and latched values at
+  -- their places.
+  pub record ClockCall (x l first second : List ℕ) : Type 0 where
+    pub first-size : length first ≡ netOf bs .size
+    pub second-size : length second ≡ netOf bs .size
+    pub inputs : SameAt (netOf bs) 0 (at first) (at x)
+    pub latched : SameAt (netOf bs) 2 (at first) (at l)
+
+  -- Calls for the clocks of a list, begun with l latched, each later one from what the one before latched. vs has what they leave in the
+  -- first slice.
+  pub data Calls : List (List ℕ) → List ℕ → List (List ℕ) → Type 0 where
+    no-call : {l : List ℕ} → Calls [] l []
+    next-call : {x l : List ℕ} {xs vs : List (List ℕ)} (first second : List ℕ) → ClockCall x l first second
+        → Calls xs (simulation (simulatorCall bs circuit first second) .second) vs
+        → Calls (x ∷ xs) l (simulation (simulatorCall bs circuit first second) .first ∷ vs)
+
+  module _ (n p : ℕ) (e : reading bs ≡ sound n p) (exists : circuitExists (netOf bs) circuit ≡ true) where
+    -- such a call is done, and makes the clock step
+    pub clock-done : (x l first second : List ℕ) → ClockCall x l first second → InputBits (netOf bs) x → LatchedBits (netOf bs) l
+        → simulation (simulatorCall bs circuit first second) ≡ outcome (answered []) (seenAfter (netOf bs) (linesIn circuit) x l) (latchedAfter (netOf bs) (linesIn circuit) x l)
+    unfolding InputBits LatchedBits
+    clock-done x l first second k hx hl =
+        let a = simulatorCall bs circuit first second in
+        let f : Fitting (netOf bs) first second =
+        record {
+          first-size = k .first-size;
+          second-size = k .second-size;
+          inputs = λ m h q. rw (k .inputs m h q) (hx m h q);
+          latched = λ m h q. rw (k .latched m h q) (hl m h q);
+        } in
+        simulation-done a e (exists, (fitting-slices (netOf bs) first second f, tt)) ∙ stepped-clock a x l (k .inputs) (k .latched)
+
+    -- No clock is refused: calls for the clocks of a list show its run.
+    pub calls-run : {xs vs : List (List ℕ)} {l : List ℕ} → Calls xs l vs → ClockList (netOf bs) xs → LatchedBits (netOf bs) l → vs ≡ run (netOf bs) (linesIn circuit) xs l
+    calls-run no-call no-clocks h = refl
+    calls-run (next-call {x} {l} {xs} {vs} first second k r) (first-clock hx q) h =
+        let net = netOf bs in
+        let s = linesIn circuit in
+        let o = clock-done x l first second k hx h in
+        let z : simulation (simulatorCall bs circuit first second) .second ≡ latchedAfter net s x l = ap (λ (t : Outcome). t .second) o in
+        let w = calls-run r q (subst (LatchedBits net) (sym z) (latchedAfter-binary net s x l hx h)) in
+        λ i. o i .first ∷ (w ∙ ap (run net s xs) z) i
