@@ -131,7 +131,7 @@ fn count_fits(netlist: &[u8], node: u16) -> bool
     rule.least <= count && count <= rule.most
 }
 
-// Whether each of the first n nodes has.
+// Whether each of the first n nodes has as many pins as its kind allows.
 fn counts_fit(netlist: &[u8], n: u16) -> bool
     ensures { λ r. ⌜ r ≡ every (countFits (now (netlist .entry))) n ⌝ }
 {
@@ -181,7 +181,7 @@ fn sources_allowed(netlist: &[u8], n: u16, node: u16) -> bool
     true
 }
 
-// The same of the first n nodes.
+// Whether each pin of the first n nodes names a source that it may name.
 fn all_sources_allowed(netlist: &[u8], n: u16) -> bool
     requires { ⌜ n ≡ nodeCount (now netlist) ⌝ }
     ensures { λ r. ⌜ r ≡ every (sourcesAllowed (now (netlist .entry))) n ⌝ }
