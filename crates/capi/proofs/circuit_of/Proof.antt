@@ -6,15 +6,12 @@ use Rattle.capi.proofs.circuit_of.Reads as reads
 use Rattle.capi.proofs.circuit_of.Lts as lts
 use Rattle.capi.proofs.fault_of.Reads as fault-of-reads
 
--- src/lib.rt:38:9
 returns : tie.Need-returns
 returns c = rw (eq-eqb _ _ (c .if1 .taken))
 
--- src/lib.rt:40:21
 fault-of-requires : tie.Need-fault-of-requires
 fault-of-requires c κs = search needs
 
--- src/lib.rt:34:1
 returns-2 : tie.Need-returns-2
 returns-2 c = rw (ne-eqb _ _ (c .before .if1 .left), c .fault-of .ensures)
 

@@ -8,23 +8,18 @@ use Rattle.capi.proofs.leverpeach_check.Lts as lts
 use Rattle.capi.proofs.number_of_check.Reads as number-of-check-reads
 use Rattle.checker.proofs.check.Reads as check-reads
 
--- src/lib.rt:99:21
 check-requires : tie.Need-check-requires
 check-requires c κs = search needs
 
--- src/lib.rt:99:5
 number-of-check-requires : tie.Need-number-of-check-requires
 number-of-check-requires c κs = search needs
 
--- src/lib.rt:89:1
 same-length : tie.Need-same-length
 same-length c = search needs
 
--- src/lib.rt:89:1
 same-length-2 : tie.Need-same-length-2
 same-length-2 c = search needs
 
--- src/lib.rt:89:1
 returns : tie.Need-returns
 returns c = (rw (c .number-of-check .ensures .0) (ap (numberedBy checkNumber) (c .before .before .before .before .before .check .ensures .0)), λ k z. c .before .before .before .before .before .check .ensures .1 k (c .number-of-check .ensures .1 k z))
 

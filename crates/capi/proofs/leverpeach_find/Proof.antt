@@ -15,31 +15,24 @@ use Rattle.capi.proofs.fault_of.Reads as fault-of-reads
 use Rattle.capi.proofs.number_of_finding.Reads as number-of-finding-reads
 use Rattle.finder.proofs.find.Reads as find-reads
 
--- src/lib.rt:146:9
 fault-of-requires : tie.Need-fault-of-requires
 fault-of-requires c κs = search needs
 
--- src/lib.rt:147:23
 find-requires : tie.Need-find-requires
 find-requires c κs = search needs
 
--- src/lib.rt:147:5
 number-of-finding-requires : tie.Need-number-of-finding-requires
 number-of-finding-requires c κs = search needs
 
--- src/lib.rt:130:1
 same-length : tie.Need-same-length
 same-length c = search needs
 
--- src/lib.rt:130:1
 same-length-2 : tie.Need-same-length-2
 same-length-2 c = search needs
 
--- src/lib.rt:130:1
 same-length-3 : tie.Need-same-length-3
 same-length-3 c = search needs
 
--- src/lib.rt:130:1
 returns : tie.Need-returns
 returns c = let a = c .before .before .before .before .before .before .before .before .before .before .before .before .before .before .before .before .args in
     let d = c .before .before .before .before .before .before .before .find in

@@ -8,15 +8,12 @@ use Rattle.capi.proofs.leverpeach_read.Lts as lts
 use Rattle.capi.proofs.number_of_reading.Reads as number-of-reading-reads
 use Rattle.circuit.proofs.read.Reads as read-reads
 
--- src/lib.rt:50:23
 read-requires : tie.Need-read-requires
 read-requires c κs = search needs
 
--- src/lib.rt:50:5
 number-of-reading-requires : tie.Need-number-of-reading-requires
 number-of-reading-requires c κs = search needs
 
--- src/lib.rt:46:1
 returns : tie.Need-returns
 returns c = c .number-of-reading .ensures ∙ ap readNumber (c .before .read .ensures)
 

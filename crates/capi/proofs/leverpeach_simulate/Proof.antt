@@ -10,27 +10,21 @@ use Rattle.capi.proofs.circuit_of.Reads as circuit-of-reads
 use Rattle.capi.proofs.number_of_step.Reads as number-of-step-reads
 use Rattle.circuit.proofs.simulate.Reads as simulate-reads
 
--- src/lib.rt:67:9
 circuit-of-requires : tie.Need-circuit-of-requires
 circuit-of-requires c κs = search needs
 
--- src/lib.rt:68:20
 simulate-requires : tie.Need-simulate-requires
 simulate-requires c κs = search needs
 
--- src/lib.rt:68:5
 number-of-step-requires : tie.Need-number-of-step-requires
 number-of-step-requires c κs = search needs
 
--- src/lib.rt:55:1
 same-length : tie.Need-same-length
 same-length c = search needs
 
--- src/lib.rt:55:1
 same-length-2 : tie.Need-same-length-2
 same-length-2 c = search needs
 
--- src/lib.rt:55:1
 returns : tie.Need-returns
 returns c = rw (c .number-of-step .ensures, ← c .before .before .before .before .before .before .before .before .circuit-of .ensures) (ap (numberedBy numberOf) (c .before .before .before .before .before .simulate .ensures))
 

@@ -7,31 +7,24 @@ use Rattle.capi.proofs.number_of_check.Tie as tie
 use Rattle.capi.proofs.number_of_check.Reads as reads
 use Rattle.capi.proofs.number_of_check.Lts as lts
 
--- src/lib.rt:56:27
 enum-known-answer : tie.Need-enum-known-answer
 enum-known-answer c = search needs
 
--- src/lib.rt:56:46
 cast-result : tie.Need-cast-result
 cast-result c = search needs
 
--- src/lib.rt:56:33
 add-result : tie.Need-add-result
 add-result c = search needs
 
--- src/lib.rt:57:26
 enum-known-answer-2 : tie.Need-enum-known-answer-2
 enum-known-answer-2 c = search needs
 
--- src/lib.rt:57:37
 cast-result-2 : tie.Need-cast-result-2
 cast-result-2 c = search needs
 
--- src/lib.rt:51:1
 returns : tie.Need-returns
 returns c = (rw (c .before .answer .given .1), λ k z. ap checkedSays (c .before .answer .given .1) ∙ ap accepted (let y : c .before .answer .given .0 .0 ≡ k = omega arith in y))
 
--- src/lib.rt:51:1
 returns-2 : tie.Need-returns-2
 returns-2 c = (rw (c .before .answer2 .given .1), λ k z. absurd (omega arith))
 

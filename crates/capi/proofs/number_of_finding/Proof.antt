@@ -9,43 +9,33 @@ use Rattle.capi.proofs.number_of_finding.Tie as tie
 use Rattle.capi.proofs.number_of_finding.Reads as reads
 use Rattle.capi.proofs.number_of_finding.Lts as lts
 
--- src/lib.rt:78:24
 enum-known-answer : tie.Need-enum-known-answer
 enum-known-answer c = search needs
 
--- src/lib.rt:78:55
 cast-result : tie.Need-cast-result
 cast-result c = search needs
 
--- src/lib.rt:78:55
 add-result : tie.Need-add-result
 add-result c = search needs
 
--- src/lib.rt:78:41
 mul-result : tie.Need-mul-result
 mul-result c = search needs
 
--- src/lib.rt:78:71
 cast-result-2 : tie.Need-cast-result-2
 cast-result-2 c = search needs
 
--- src/lib.rt:78:41
 add-result-2 : tie.Need-add-result-2
 add-result-2 c = search needs
 
--- src/lib.rt:79:26
 enum-told : tie.Need-enum-told
 enum-told c = search needs
 
--- src/lib.rt:80:26
 enum-known-answer-2 : tie.Need-enum-known-answer-2
 enum-known-answer-2 c = search needs
 
--- src/lib.rt:80:37
 cast-result-3 : tie.Need-cast-result-3
 cast-result-3 c = search needs
 
--- src/lib.rt:72:1
 returns : tie.Need-returns
 returns c = let e = c .before .answer .given .1 in (
   rw e,
@@ -58,11 +48,9 @@ returns c = let e = c .before .answer .given .1 in (
   ),
 )
 
--- src/lib.rt:72:1
 returns-2 : tie.Need-returns-2
 returns-2 c = (rw (c .enum-told .given .1), (λ k l h z. absurd (omega arith), λ _. inl (ap findingSays (c .enum-told .given .1))))
 
--- src/lib.rt:72:1
 returns-3 : tie.Need-returns-3
 returns-3 c = let e = c .before .answer2 .given .1 in
     (rw e, (λ k l h z. absurd (omega arith), λ z. inr (ap findingSays e ∙ ap refused z)))

@@ -4,43 +4,33 @@ use Rattle.capi.proofs.number_of_reading.Tie as tie
 use Rattle.capi.proofs.number_of_reading.Reads as reads
 use Rattle.capi.proofs.number_of_reading.Lts as lts
 
--- src/lib.rt:31:24
 enum-known-answer : tie.Need-enum-known-answer
 enum-known-answer c = search needs
 
--- src/lib.rt:31:55
 cast-result : tie.Need-cast-result
 cast-result c = search needs
 
--- src/lib.rt:31:46
 mul-result : tie.Need-mul-result
 mul-result c = search needs
 
--- src/lib.rt:31:33
 add-result : tie.Need-add-result
 add-result c = search needs
 
--- src/lib.rt:31:67
 cast-result-2 : tie.Need-cast-result-2
 cast-result-2 c = search needs
 
--- src/lib.rt:31:33
 add-result-2 : tie.Need-add-result-2
 add-result-2 c = search needs
 
--- src/lib.rt:32:26
 enum-known-answer-2 : tie.Need-enum-known-answer-2
 enum-known-answer-2 c = search needs
 
--- src/lib.rt:32:37
 cast-result-3 : tie.Need-cast-result-3
 cast-result-3 c = search needs
 
--- src/lib.rt:27:1
 returns : tie.Need-returns
 returns c = rw (c .before .answer .given .1)
 
--- src/lib.rt:27:1
 returns-2 : tie.Need-returns-2
 returns-2 c = search needs
 

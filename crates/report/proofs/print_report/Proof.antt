@@ -24,38 +24,30 @@ Inv-loop input known₀ touched₀ certificate₀ line₀ progress₀ known touc
 abbrev μ-loop : tie.MeasureT-loop
 μ-loop input known₀ touched₀ certificate₀ line₀ progress₀ known touched certificate line progress = turnsLeft input (progress .stage)
 
--- src/main.rt:17:9
 begin-requires : tie.Need-begin-requires Inv-loop μ-loop
 begin-requires c κs = search needs
 
--- src/main.rt:18:5
 loop-holds : tie.Need-loop-holds Inv-loop μ-loop
 loop-holds c = (refl, refl, refl, refl, c .before .before .before .before .before .before .pre)
 
--- src/main.rt:18:12
 is-over-requires : tie.Need-is-over-requires Inv-loop μ-loop
 is-over-requires c κs = search needs
 
--- src/main.rt:19:9
 next-line-requires : tie.Need-next-line-requires Inv-loop μ-loop
 next-line-requires c κs = search needs
 
--- src/main.rt:21:38
 slice-reshare-prefix-write-all : tie.Need-slice-reshare-prefix-write-all Inv-loop μ-loop
 slice-reshare-prefix-write-all c = let n = c .before .before .before .before .before .before .before .before .next-line in
     omega (arith, n .ensures .1 .0, n .kept .1 .1 .1 .1 .1 .0, c .before .before .before .before .before .before .before .before .before .before .before .before .before .before .before .loop .inv .4 .line)
 
--- src/main.rt:21:38
 slice-aggregate-write-all : tie.Need-slice-aggregate-write-all Inv-loop μ-loop
 slice-aggregate-write-all c = let n = c .before .before .before .before .before .before .before .before .before .next-line in
     let h : n .result .length ≤ length (n .last .1 .1 .1 .1 .1 .0) = omega (arith, n .ensures .1 .0, n .kept .1 .1 .1 .1 .1 .0, c .before .before .before .before .before .before .before .before .before .before .before .before .before .before .before .before .loop .inv .4 .line) in
     sym (length-take-le (n .result .length) (n .last .1 .1 .1 .1 .1 .0) h)
 
--- src/main.rt:21:9
 write-all-requires : tie.Need-write-all-requires Inv-loop μ-loop
 write-all-requires c κs = search needs
 
--- src/main.rt:18:5
 loop-less : tie.Need-loop-less Inv-loop μ-loop
 loop-less c = let a = c .before .before .before .before .before .before .before .before .before .before .before .before .before .before .before .before .before .before .before .before .before .before .before .before .args in
     let l = c .before .before .before .before .before .before .before .before .before .before .before .before .before .before .before .before .before .loop in
@@ -63,7 +55,6 @@ loop-less c = let a = c .before .before .before .before .before .before .before 
     let h = turn-left (now (a .input)) (l .progress .stage) (sym (o .ensures) ∙ not-true (o .result) (c .before .before .before .before .before .before .before .before .before .before .before .before .before .before .before .if1 .taken)) in
     omega (arith, h, c .before .before .before .before .before .before .before .before .before .before .next-line .ensures .1 .1)
 
--- src/main.rt:18:5
 loop-again : tie.Need-loop-again Inv-loop μ-loop
 loop-again c = let l = c .before .before .before .before .before .before .before .before .before .before .before .before .before .before .before .before .before .loop in
     let k = c .before .before .before .before .before .before .before .before .before .before .next-line .kept in
@@ -80,23 +71,18 @@ loop-again c = let l = c .before .before .before .before .before .before .before
       },
     )
 
--- src/main.rt:8:1
 same-length : tie.Need-same-length Inv-loop μ-loop
 same-length c = c .before .before .loop .inv .0
 
--- src/main.rt:8:1
 same-length-2 : tie.Need-same-length-2 Inv-loop μ-loop
 same-length-2 c = c .before .before .loop .inv .1
 
--- src/main.rt:8:1
 same-length-3 : tie.Need-same-length-3 Inv-loop μ-loop
 same-length-3 c = c .before .before .loop .inv .2
 
--- src/main.rt:8:1
 same-length-4 : tie.Need-same-length-4 Inv-loop μ-loop
 same-length-4 c = c .before .before .loop .inv .3
 
--- src/main.rt:8:1
 returns : tie.Need-returns Inv-loop μ-loop
 returns c = search needs
 

@@ -22,19 +22,15 @@ use Rattle.finder.proofs.branch.work_branch.Lts as lts
 use Rattle.checker.proofs.begin_branch.Reads as begin-branch-reads
 use Rattle.finder.proofs.sweep.sweep_to_end.Reads as sweep-to-end-reads
 
--- src/branch.rt:40:13
 add-w : tie.Need-add-w
 add-w c = search needs
 
--- src/branch.rt:40:13
 add-w-2 : tie.Need-add-w-2
 add-w-2 c = search needs
 
--- src/branch.rt:41:9
 begin-branch-requires : tie.Need-begin-branch-requires
 begin-branch-requires c κs = search needs
 
--- src/branch.rt:43:5
 sweep-to-end-requires : tie.Need-sweep-to-end-requires
 sweep-to-end-requires c κs = let a = c .before .before .before .before .before .before .before .before .before .before .args in
     let p = c .before .before .before .before .before .before .before .before .before .before .pre in
@@ -56,15 +52,12 @@ sweep-to-end-requires c κs = let a = c .before .before .before .before .before 
     let most = begin-tally net o (a .fault) (a .split .c) W (now (a .run)) (a .split .node) (a .split .frame) (a .v) (fs .0) (fs .1) hc hn (p .1 .1 .0 .1) (p .1 .1 .0 .3) in
     (p .0, omega (arith, ap tally st, most, few))
 
--- src/branch.rt:22:1
 same-length : tie.Need-same-length
 same-length c = search needs
 
--- src/branch.rt:22:1
 same-length-2 : tie.Need-same-length-2
 same-length-2 c = search needs
 
--- src/branch.rt:22:1
 returns : tie.Need-returns
 unfolding branchOf
 returns c = let a = c .before .before .before .before .before .before .before .before .before .before .before .before .before .before .before .args in

@@ -21,52 +21,41 @@ Inv-loop n c known node stuck frame₀ frame = (frame ≤ c) × ((t : ℕ) → t
 abbrev μ-loop : tie.MeasureT-loop
 μ-loop n c known node stuck frame₀ frame = c - frame
 
--- src/notes.rt:40:9
 stuck-node-requires : tie.Need-stuck-node-requires Inv-loop μ-loop
 stuck-node-requires c κs = search needs
 
--- src/notes.rt:42:9
 returns : tie.Need-returns Inv-loop μ-loop
 unfolding linesIn
 returns c = let a = c .before .before .before .args in
     λ _. held-nowhere (a .n) (a .fault) (a .c) (now (a .known)) (omega (arith, c .before .stuck-node .ensures, c .if1 .taken))
 
--- src/notes.rt:45:5
 loop-holds : tie.Need-loop-holds Inv-loop μ-loop
 loop-holds c = (omega arith, λ t h. absurd (omega arith))
 
--- src/notes.rt:46:48
 cast-place-of : tie.Need-cast-place-of Inv-loop μ-loop
 cast-place-of c = search needs
 
--- src/notes.rt:46:13
 place-of-requires : tie.Need-place-of-requires Inv-loop μ-loop
 place-of-requires c κs = search needs
 
--- src/notes.rt:47:12
 byte-at-requires : tie.Need-byte-at-requires Inv-loop μ-loop
 byte-at-requires c κs = search needs
 
--- src/notes.rt:48:13
 returns-2 : tie.Need-returns-2 Inv-loop μ-loop
 returns-2 c = λ e. absurd (false≢true e)
 
--- src/notes.rt:50:9
 add-frame : tie.Need-add-frame Inv-loop μ-loop
 add-frame c = search needs
 
--- src/notes.rt:45:5
 loop-less : tie.Need-loop-less Inv-loop μ-loop
 loop-less c = search needs
 
--- src/notes.rt:45:5
 loop-again : tie.Need-loop-again Inv-loop μ-loop
 loop-again c = let a = c .before .before .before .before .before .before .before .before .args in
     let l = c .before .before .before .before .loop in
     let here = ap (at (now (a .known))) (sym (c .before .before .place-of .ensures)) ∙ sym (c .before .byte-at .ensures) ∙ c .if2 .left in
     (omega arith, held-more (now (a .known)) (a .n) (a .fault .node) (c .before .before .before .before .before .before .stuck-node .result) (l .frame) (l .inv .1) here)
 
--- src/notes.rt:36:1
 returns-3 : tie.Need-returns-3 Inv-loop μ-loop
 unfolding linesIn
 returns-3 c = let a = c .before .before .before .before .before .args in

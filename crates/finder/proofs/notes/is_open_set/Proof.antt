@@ -28,39 +28,30 @@ use Rattle.checker.proofs.effect_dies.Reads as effect-dies-reads
 use Rattle.finder.proofs.notes.holds_fault.Reads as holds-fault-reads
 use Rattle.finder.proofs.sweep.sweep_window.Reads as sweep-window-reads
 
--- src/notes.rt:72:9
 holds-fault-requires : tie.Need-holds-fault-requires
 holds-fault-requires c κs = search needs
 
--- src/notes.rt:73:9
 same-length : tie.Need-same-length
 same-length c = search needs
 
--- src/notes.rt:73:9
 returns : tie.Need-returns
 returns c = λ e. absurd (false≢true e)
 
--- src/notes.rt:83:9
 add-sweep-window : tie.Need-add-sweep-window
 add-sweep-window c = search needs
 
--- src/notes.rt:83:9
 add-sweep-window-2 : tie.Need-add-sweep-window-2
 add-sweep-window-2 c = search needs
 
--- src/notes.rt:86:9
 slice-aggregate-sweep-window : tie.Need-slice-aggregate-sweep-window
 slice-aggregate-sweep-window c = search needs
 
--- src/notes.rt:88:9
 slice-relend-prefix-sweep-window : tie.Need-slice-relend-prefix-sweep-window
 slice-relend-prefix-sweep-window c = search needs
 
--- src/notes.rt:88:9
 slice-aggregate-sweep-window-2 : tie.Need-slice-aggregate-sweep-window-2
 slice-aggregate-sweep-window-2 c = search needs
 
--- src/notes.rt:80:9
 sweep-window-requires : tie.Need-sweep-window-requires
 unfolding tally
 sweep-window-requires c κs = let a = c .before .before .before .before .before .before .before .before .before .args in
@@ -73,31 +64,24 @@ sweep-window-requires c κs = let a = c .before .before .before .before .before 
     let m = p .1 .1 .1 .0 ∙ ap (λ (x : ℕ). x * W) size in
     (p .0, (omega (arith, open-tally (now (a .known)) [], few, m), calm-none net (presentBelow (a .c) (linesOf (a .fault))) 15 _))
 
--- src/notes.rt:92:9
 same-length-2 : tie.Need-same-length-2
 same-length-2 c = search needs
 
--- src/notes.rt:92:9
 same-length-3 : tie.Need-same-length-3
 same-length-3 c = search needs
 
--- src/notes.rt:92:9
 returns-2 : tie.Need-returns-2
 returns-2 c = λ e. absurd (false≢true e)
 
--- src/notes.rt:94:6
 effect-dies-requires : tie.Need-effect-dies-requires
 effect-dies-requires c κs = search needs
 
--- src/notes.rt:57:1
 same-length-4 : tie.Need-same-length-4
 same-length-4 c = search needs
 
--- src/notes.rt:57:1
 same-length-5 : tie.Need-same-length-5
 same-length-5 c = search needs
 
--- src/notes.rt:57:1
 returns-3 : tie.Need-returns-3
 returns-3 c = let a = c .before .before .before .before .before .before .before .before .before .before .before .before .before .before .before .before .before .before .before .before .before .before .args in
     let p = c .before .before .before .before .before .before .before .before .before .before .before .before .before .before .before .before .before .before .before .before .before .before .pre in

@@ -16,20 +16,16 @@ use Rattle.circuit.proofs.length_of.Reads as length-of-reads
 use Rattle.listing.proofs.faults.first_of.Reads as first-of-reads
 use Rattle.listing.proofs.faults.site_after.Reads as site-after-reads
 
--- src/faults.rt:53:9
 returns : tie.Need-returns
 unfolding followsAt
 returns c = rw (c .if1 .taken)
 
--- src/faults.rt:60:19
 enum-known-site : tie.Need-enum-known-site
 enum-known-site c = search needs
 
--- src/faults.rt:61:35
 length-of-requires : tie.Need-length-of-requires
 length-of-requires c κs = search needs
 
--- src/faults.rt:61:17
 site-after-requires : tie.Need-site-after-requires
 unfolding netOf
 site-after-requires c κs = let s = c .before .before .before .before .before .before .before in
@@ -37,11 +33,9 @@ site-after-requires c κs = let s = c .before .before .before .before .before .b
     let h = exists-node (netOf b) (s .args .fault) (s .pre .1) in
     omega (arith, c .length-of .ensures, pins-length b (s .args .fault .node), pins-few b (s .args .fault .node) (s .pre .0) h)
 
--- src/faults.rt:68:42
 enum-told : tie.Need-enum-told
 enum-told c = search needs
 
--- src/faults.rt:68:42
 add-first-of : tie.Need-add-first-of
 unfolding netOf
 add-first-of c = let s = c .before .before .before .before .before in
@@ -49,11 +43,9 @@ add-first-of c = let s = c .before .before .before .before .before in
     let h = exists-node (netOf b) (s .args .fault) (s .pre .1) in
     omega (arith, h, facts b (nodeCount b) (pinCount b) (s .pre .0) .few-nodes)
 
--- src/faults.rt:68:24
 first-of-requires : tie.Need-first-of-requires
 first-of-requires c κs = search needs
 
--- src/faults.rt:45:1
 returns-2 : tie.Need-returns-2
 unfolding followsAt behindSite
 returns-2 c = let s = c .before .before .before .before .before .before .before .before in
@@ -61,7 +53,6 @@ returns-2 c = let s = c .before .before .before .before .before .before .before 
     let u : s .args .fault .stuck ≡ 1 = omega (arith, exists-stuck (netOf b) (s .args .fault) (s .pre .1), c .before .before .before .before .before .if1 .left) in
     rw (u, c .before .before .before .site .given .1, pins-length b (s .args .fault .node), c .site-after .ensures, c .before .length-of .ensures)
 
--- src/faults.rt:45:1
 returns-3 : tie.Need-returns-3
 unfolding followsAt behindSite
 returns-3 c = let s = c .before .before .before .before .before .before in

@@ -9,15 +9,12 @@ use Rattle.listing.proofs.faults.first_of.Lts as lts
 use Rattle.circuit.proofs.length_of.Reads as length-of-reads
 use Rattle.listing.proofs.faults.first_site.Reads as first-site-reads
 
--- src/faults.rt:36:27
 length-of-requires : tie.Need-length-of-requires
 length-of-requires c κs = search needs
 
--- src/faults.rt:36:9
 first-site-requires : tie.Need-first-site-requires
 first-site-requires c κs = search needs
 
--- src/faults.rt:33:1
 returns : tie.Need-returns
 unfolding firstOf
 returns c = let a = c .before .before .before .args in

@@ -4,11 +4,9 @@ use Rattle.listing.proofs.faults.first_site.Tie as tie
 use Rattle.listing.proofs.faults.first_site.Reads as reads
 use Rattle.listing.proofs.faults.first_site.Lts as lts
 
--- src/faults.rt:16:9
 returns : tie.Need-returns
 returns c = rw (lt-ltb _ _ (c .if1 .taken))
 
--- src/faults.rt:12:1
 returns-2 : tie.Need-returns-2
 returns-2 c = rw (le-ltb _ _ (c .if1 .left))
 

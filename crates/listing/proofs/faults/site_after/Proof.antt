@@ -5,19 +5,15 @@ use Rattle.listing.proofs.faults.site_after.Tie as tie
 use Rattle.listing.proofs.faults.site_after.Reads as reads
 use Rattle.listing.proofs.faults.site_after.Lts as lts
 
--- src/faults.rt:26:8
 add-if1 : tie.Need-add-if1
 add-if1 c = search needs
 
--- src/faults.rt:27:26
 add-t6 : tie.Need-add-t6
 add-t6 c = search needs
 
--- src/faults.rt:27:9
 returns : tie.Need-returns
 returns c = rw (lt-ltb _ _ (c .if1 .taken))
 
--- src/faults.rt:22:1
 returns-2 : tie.Need-returns-2
 returns-2 c = rw (le-ltb _ _ (c .if1 .left))
 

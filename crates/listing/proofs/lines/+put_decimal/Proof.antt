@@ -27,7 +27,6 @@ abbrev put-decimal-below : ℕ → In 1 put-decimal-kinds.ps
 put-decimal-below t =
     and 1 put-decimal-kinds.ps (falls 1 put-decimal-kinds.ps _<_ μ-put-decimal t) put-decimal.Pre
 
--- src/lines.rt:24:41
 put-decimal-cast-store : (t : ℕ) → put-decimal-lts.Need-cast-store (
   store-reads.Asked,
   store-reads.Learnt,
@@ -36,7 +35,6 @@ put-decimal-cast-store : (t : ℕ) → put-decimal-lts.Need-cast-store (
 ) (put-decimal-at t) put-decimal.Post
 put-decimal-cast-store t c = search needs
 
--- src/lines.rt:24:36
 put-decimal-add-store : (t : ℕ) → put-decimal-lts.Need-add-store (
   store-reads.Asked,
   store-reads.Learnt,
@@ -45,7 +43,6 @@ put-decimal-add-store : (t : ℕ) → put-decimal-lts.Need-add-store (
 ) (put-decimal-at t) put-decimal.Post
 put-decimal-add-store t c = search needs
 
--- src/lines.rt:24:9
 put-decimal-store-requires : (t : ℕ) → put-decimal-lts.Need-store-requires (
   store-reads.Asked,
   store-reads.Learnt,
@@ -54,7 +51,6 @@ put-decimal-store-requires : (t : ℕ) → put-decimal-lts.Need-store-requires (
 ) (put-decimal-at t) put-decimal.Post
 put-decimal-store-requires t c κs = search needs
 
--- src/lines.rt:25:16
 put-decimal-add-result : (t : ℕ) → put-decimal-lts.Need-add-result (
   store-reads.Asked,
   store-reads.Learnt,
@@ -63,7 +59,6 @@ put-decimal-add-result : (t : ℕ) → put-decimal-lts.Need-add-result (
 ) (put-decimal-at t) put-decimal.Post
 put-decimal-add-result t c = omega arith
 
--- src/lines.rt:25:9
 put-decimal-same-length : (t : ℕ) → put-decimal-lts.Need-same-length (
   store-reads.Asked,
   store-reads.Learnt,
@@ -72,7 +67,6 @@ put-decimal-same-length : (t : ℕ) → put-decimal-lts.Need-same-length (
 ) (put-decimal-at t) put-decimal.Post
 put-decimal-same-length t c = rw (c .before .before .store .ensures) (simp length-set)
 
--- src/lines.rt:25:9
 put-decimal-returns : (t : ℕ) → put-decimal-lts.Need-returns (
   store-reads.Asked,
   store-reads.Learnt,
@@ -83,7 +77,6 @@ put-decimal-returns t c = let a = c .before .before .before .before .before .bef
     let e = decimal-one (a .number) (c .before .before .before .before .if1 .taken) in
     (rw e (omega arith), c .before .before .store .ensures ∙ rw e)
 
--- src/lines.rt:27:9
 put-decimal-put-decimal-requires : (t : ℕ) → put-decimal-lts.Need-put-decimal-requires (
   store-reads.Asked,
   store-reads.Learnt,
@@ -92,7 +85,6 @@ put-decimal-put-decimal-requires : (t : ℕ) → put-decimal-lts.Need-put-decima
 ) (put-decimal-at t) put-decimal.Post
 put-decimal-put-decimal-requires t c κs = let s = c .before .before .before in (omega (arith, s .pre .0, c .before .if1 .left), s .pre .1)
 
--- src/lines.rt:28:35
 put-decimal-cast-store-2 : (t : ℕ) → put-decimal-lts.Need-cast-store-2 (
   store-reads.Asked,
   store-reads.Learnt,
@@ -101,7 +93,6 @@ put-decimal-cast-store-2 : (t : ℕ) → put-decimal-lts.Need-cast-store-2 (
 ) (put-decimal-at t) put-decimal.Post
 put-decimal-cast-store-2 t c = search needs
 
--- src/lines.rt:28:30
 put-decimal-add-store-2 : (t : ℕ) → put-decimal-lts.Need-add-store-2 (
   store-reads.Asked,
   store-reads.Learnt,
@@ -110,7 +101,6 @@ put-decimal-add-store-2 : (t : ℕ) → put-decimal-lts.Need-add-store-2 (
 ) (put-decimal-at t) put-decimal.Post
 put-decimal-add-store-2 t c = search needs
 
--- src/lines.rt:28:5
 put-decimal-store-requires-2 : (t : ℕ) → put-decimal-lts.Need-store-requires-2 (
   store-reads.Asked,
   store-reads.Learnt,
@@ -119,7 +109,6 @@ put-decimal-store-requires-2 : (t : ℕ) → put-decimal-lts.Need-store-requires
 ) (put-decimal-at t) put-decimal.Post
 put-decimal-store-requires-2 t c κs = search needs
 
--- src/lines.rt:29:5
 put-decimal-add-result-2 : (t : ℕ) → put-decimal-lts.Need-add-result-2 (
   store-reads.Asked,
   store-reads.Learnt,
@@ -130,7 +119,6 @@ put-decimal-add-result-2 t c = let a = c .before .before .before .before .before
     let q : a .number / 10 < 4294967296 = omega arith in
     omega (arith, c .before .before .before .before .before .before .put-decimal .ensures .0, decimal-short (a .number / 10) q, c .before .before .before .before .before .before .before .before .before .before .pre .1)
 
--- src/lines.rt:18:1
 put-decimal-same-length-2 : (t : ℕ) → put-decimal-lts.Need-same-length-2 (
   store-reads.Asked,
   store-reads.Learnt,
@@ -139,7 +127,6 @@ put-decimal-same-length-2 : (t : ℕ) → put-decimal-lts.Need-same-length-2 (
 ) (put-decimal-at t) put-decimal.Post
 put-decimal-same-length-2 t c = rw (c .before .before .store2 .ensures) (simp length-set (c .before .before .before .before .before .before .put-decimal .kept .0))
 
--- src/lines.rt:18:1
 put-decimal-returns-2 : (t : ℕ) → put-decimal-lts.Need-returns-2 (
   store-reads.Asked,
   store-reads.Learnt,

@@ -16,71 +16,54 @@ use Rattle.values.proofs.u16_at.Reads as u16-at-reads
 use Rattle.listing.proofs.lines.put_field.Reads as put-field-reads
 use Rattle.circuit.proofs.site_byte.Reads as site-byte-reads
 
--- src/lines.rt:73:9
 tail-requires : tie.Need-tail-requires
 tail-requires c κs = search needs
 
--- src/lines.rt:74:9
 u16-at-requires : tie.Need-u16-at-requires
 u16-at-requires c κs = search needs
 
--- src/lines.rt:75:9
 byte-at-requires : tie.Need-byte-at-requires
 byte-at-requires c κs = search needs
 
--- src/lines.rt:76:37
 cast-put-field : tie.Need-cast-put-field
 cast-put-field c = search needs
 
--- src/lines.rt:76:9
 put-field-requires : tie.Need-put-field-requires
 put-field-requires c κs = search needs
 
--- src/lines.rt:77:31
 site-byte-requires : tie.Need-site-byte-requires
 site-byte-requires c κs = search needs
 
--- src/lines.rt:77:31
 cast-put-field-2 : tie.Need-cast-put-field-2
 cast-put-field-2 c = search needs
 
--- src/lines.rt:77:5
 put-field-requires-2 : tie.Need-put-field-requires-2
 put-field-requires-2 c κs = search needs
 
--- src/lines.rt:78:31
 cast-put-field-3 : tie.Need-cast-put-field-3
 cast-put-field-3 c = search needs
 
--- src/lines.rt:78:5
 put-field-requires-3 : tie.Need-put-field-requires-3
 put-field-requires-3 c κs = search needs
 
--- src/lines.rt:79:5
 put-field-requires-4 : tie.Need-put-field-requires-4
 put-field-requires-4 c κs = search needs
 
--- src/lines.rt:80:31
 cast-put-field-4 : tie.Need-cast-put-field-4
 cast-put-field-4 c = search needs
 
--- src/lines.rt:80:5
 put-field-requires-5 : tie.Need-put-field-requires-5
 put-field-requires-5 c κs = search needs
 
--- src/lines.rt:81:25
 cast-put-field-5 : tie.Need-cast-put-field-5
 cast-put-field-5 c = search needs
 
--- src/lines.rt:81:5
 put-field-requires-6 : tie.Need-put-field-requires-6
 put-field-requires-6 c κs = search needs
 
--- src/lines.rt:68:1
 same-length : tie.Need-same-length
 same-length c = search needs
 
--- src/lines.rt:68:1
 returns : tie.Need-returns
 unfolding markLine
 returns c = let a = c .before .before .before .before .before .before .before .before .before .before .before .before .before .before .before .before .before .before .before .before .before .before .before .before .before .before .before .before .before .before .before .before .args in

@@ -13,25 +13,20 @@ use Rattle.listing.proofs.lines.put_field.Lts as lts
 use Rattle.values.proofs.store.Reads as store-reads
 use Rattle.listing.proofs.lines.put_decimal.Reads as put-decimal-reads
 
--- src/lines.rt:38:9
 put-decimal-requires : tie.Need-put-decimal-requires
 put-decimal-requires c κs = search needs
 
--- src/lines.rt:39:5
 store-requires : tie.Need-store-requires
 store-requires c κs = search needs
 
--- src/lines.rt:40:5
 add-result : tie.Need-add-result
 add-result c = let s = c .before .before .before .before .before .before .before .before .before in
     let q : s .args .number < 4294967296 = omega (arith, s .fits .number) in
     omega (arith, c .before .before .before .before .before .before .put-decimal .ensures .0, decimal-short (s .args .number) q, s .pre)
 
--- src/lines.rt:33:1
 same-length : tie.Need-same-length
 same-length c = search needs
 
--- src/lines.rt:33:1
 returns : tie.Need-returns
 unfolding field
 returns c = let s = c .before .before .before .before .before .before .before .before .before in

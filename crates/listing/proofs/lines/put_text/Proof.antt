@@ -18,31 +18,24 @@ Inv-loop out₀ place text i₀ out i = (i ≤ length text) × (length out ≡ l
 abbrev μ-loop : tie.MeasureT-loop
 μ-loop out₀ place text i₀ out i = length text - i
 
--- src/lines.rt:50:5
 loop-holds : tie.Need-loop-holds Inv-loop μ-loop
 loop-holds c = (omega arith, refl, refl)
 
--- src/lines.rt:51:29
 add-store : tie.Need-add-store Inv-loop μ-loop
 add-store c = omega arith
 
--- src/lines.rt:51:40
 shared-slice-read-store : tie.Need-shared-slice-read-store Inv-loop μ-loop
 shared-slice-read-store c = omega arith
 
--- src/lines.rt:51:9
 store-requires : tie.Need-store-requires Inv-loop μ-loop
 store-requires c κs = search needs
 
--- src/lines.rt:52:9
 add-i : tie.Need-add-i Inv-loop μ-loop
 add-i c = omega arith
 
--- src/lines.rt:50:5
 loop-less : tie.Need-loop-less Inv-loop μ-loop
 loop-less c = omega arith
 
--- src/lines.rt:50:5
 loop-again : tie.Need-loop-again Inv-loop μ-loop
 loop-again c = let a = c .before .before .before .before .before .before .before .before .before .args in
     let l = c .before .before .before .before .before .before .loop in
@@ -50,15 +43,12 @@ loop-again c = let a = c .before .before .before .before .before .before .before
     let h : l .i < length (now (a .text)) = omega (arith, c .before .before .before .before .before .loop-test .taken) in
     (omega arith, rw (st .ensures) (simp length-set (l .inv .1)), st .ensures ∙ rw (l .inv .2) (text-more (now (a .text)) (now (a .out)) (a .place) (l .i) h))
 
--- src/lines.rt:54:5
 add-result : tie.Need-add-result Inv-loop μ-loop
 add-result c = omega arith
 
--- src/lines.rt:44:1
 same-length : tie.Need-same-length Inv-loop μ-loop
 same-length c = c .before .loop .inv .1
 
--- src/lines.rt:44:1
 returns : tie.Need-returns Inv-loop μ-loop
 returns c = let a = c .before .before .before .before .args in
     let l = c .before .loop in

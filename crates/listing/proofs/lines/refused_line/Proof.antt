@@ -11,23 +11,18 @@ use Rattle.listing.proofs.lines.refused_line.Lts as lts
 use Rattle.listing.proofs.lines.put_field.Reads as put-field-reads
 use Rattle.listing.proofs.lines.put_text.Reads as put-text-reads
 
--- src/lines.rt:99:32
 slice-aggregate-put-text : tie.Need-slice-aggregate-put-text
 slice-aggregate-put-text c = search needs
 
--- src/lines.rt:99:9
 put-text-requires : tie.Need-put-text-requires
 put-text-requires c κs = search needs
 
--- src/lines.rt:100:5
 put-field-requires : tie.Need-put-field-requires
 put-field-requires c κs = search needs
 
--- src/lines.rt:95:1
 same-length : tie.Need-same-length
 same-length c = search needs
 
--- src/lines.rt:95:1
 returns : tie.Need-returns
 unfolding refusedLine
 returns c = let a = c .before .before .before .before .before .before .before .before .before .before .args in

@@ -11,27 +11,21 @@ use Rattle.listing.proofs.lines.total_line.Lts as lts
 use Rattle.listing.proofs.lines.put_field.Reads as put-field-reads
 use Rattle.listing.proofs.lines.put_text.Reads as put-text-reads
 
--- src/lines.rt:89:9
 put-field-requires : tie.Need-put-field-requires
 put-field-requires c κs = search needs
 
--- src/lines.rt:90:30
 slice-aggregate-put-text : tie.Need-slice-aggregate-put-text
 slice-aggregate-put-text c = search needs
 
--- src/lines.rt:90:5
 put-text-requires : tie.Need-put-text-requires
 put-text-requires c κs = search needs
 
--- src/lines.rt:91:5
 put-field-requires-2 : tie.Need-put-field-requires-2
 put-field-requires-2 c κs = search needs
 
--- src/lines.rt:85:1
 same-length : tie.Need-same-length
 same-length c = search needs
 
--- src/lines.rt:85:1
 returns : tie.Need-returns
 unfolding totalLine
 returns c = let a = c .before .before .before .before .before .before .before .before .before .before .before .before .before .before .args in

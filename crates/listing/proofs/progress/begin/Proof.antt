@@ -9,15 +9,12 @@ use Rattle.listing.proofs.progress.begin.Lts as lts
 use Rattle.values.proofs.tail.Reads as tail-reads
 use Rattle.listing.proofs.faults.first_of.Reads as first-of-reads
 
--- src/progress.rt:43:26
 tail-requires : tie.Need-tail-requires
 tail-requires c κs = search needs
 
--- src/progress.rt:43:9
 first-of-requires : tie.Need-first-of-requires
 first-of-requires c κs = search needs
 
--- src/progress.rt:39:1
 returns : tie.Need-returns
 unfolding begun
 returns c = let i = now (c .before .before .before .args .input) in

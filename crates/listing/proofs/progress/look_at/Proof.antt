@@ -19,81 +19,63 @@ use Rattle.listing.proofs.progress.ended.Reads as ended-reads
 use Rattle.listing.proofs.progress.looked_at.Reads as looked-at-reads
 use Rattle.std.proofs.num.wrapping_add_u32.Reads as wrapping-add-u32-reads
 
--- src/progress.rt:117:9
 tail-requires : tie.Need-tail-requires
 tail-requires c κs = search needs
 
--- src/progress.rt:118:9
 byte-at-requires : tie.Need-byte-at-requires
 byte-at-requires c κs = search needs
 
--- src/progress.rt:119:9
 byte-at-requires-2 : tie.Need-byte-at-requires-2
 byte-at-requires-2 c κs = search needs
 
--- src/progress.rt:120:9
 find-requires : tie.Need-find-requires
 find-requires c κs = search needs
 
--- src/progress.rt:122:24
 enum-known-finding : tie.Need-enum-known-finding
 enum-known-finding c = search needs
 
--- src/progress.rt:123:17
 mark-line-requires : tie.Need-mark-line-requires
 mark-line-requires c κs = search needs
 
--- src/progress.rt:127:17
 wrapping-add-u32-requires : tie.Need-wrapping-add-u32-requires
 wrapping-add-u32-requires c κs = search needs
 
--- src/progress.rt:124:13
 looked-at-requires : tie.Need-looked-at-requires
 looked-at-requires c κs = let a = c .before .before .before .before .before .before .before .before .before .before .before .before .before .before .before .before .before .before .before .before .before .before .before .before .before .before .before .args in
     let g = c .before .before .before .before .before .before .before .before .before .before .before .before .before .before .before .find in
     let t = c .before .before .before .before .before .before .before .before .before .before .before .before .before .before .before .before .before .before .before .before .before .tail in
     rw (t .ensures) (answered-sound (now (a .input)) (a .fault) (a .marks) (a .faults) (now (a .first)) (now (a .second)) (now (a .certificate)) (now (a .line)) (g .last .1 .1 .1 .1 .0) (g .last .1 .1 .1 .1 .1 .0) (g .last .1 .1 .1 .1 .1 .1 .0) (t .ensures) (c .before .before .before .before .before .before .before .before .before .before .before .before .before .before .before .before .before .before .before .before .byte-at .ensures) (c .before .before .before .before .before .before .before .before .before .before .before .before .before .before .before .before .before .before .before .byte-at2 .ensures) (Finding.Found (c .before .before .before .before .before .before .before .finding .given .0 .0) (c .before .before .before .before .before .before .before .finding .given .0 .1 .0) (c .before .before .before .before .before .before .before .finding .given .0 .1 .1 .0)) (c .before .before .before .before .before .before .before .finding .given .1) (g .ensures .0) (c .before .before .before .before .before .before .before .finding .given .0 .0 ∷ c .before .before .before .before .before .before .before .finding .given .0 .1 .0 ∷ c .before .before .before .before .before .before .before .finding .given .0 .1 .1 .0 ∷ []) refl, answered-exists (now (a .input)) (a .fault) (a .marks) (a .faults) (now (a .first)) (now (a .second)) (now (a .certificate)) (now (a .line)) (g .last .1 .1 .1 .1 .0) (g .last .1 .1 .1 .1 .1 .0) (g .last .1 .1 .1 .1 .1 .1 .0) (t .ensures) (c .before .before .before .before .before .before .before .before .before .before .before .before .before .before .before .before .before .before .before .before .byte-at .ensures) (c .before .before .before .before .before .before .before .before .before .before .before .before .before .before .before .before .before .before .before .byte-at2 .ensures) (Finding.Found (c .before .before .before .before .before .before .before .finding .given .0 .0) (c .before .before .before .before .before .before .before .finding .given .0 .1 .0) (c .before .before .before .before .before .before .before .finding .given .0 .1 .1 .0)) (c .before .before .before .before .before .before .before .finding .given .1) (g .ensures .0) (c .before .before .before .before .before .before .before .finding .given .0 .0 ∷ c .before .before .before .before .before .before .before .finding .given .0 .1 .0 ∷ c .before .before .before .before .before .before .before .finding .given .0 .1 .1 .0 ∷ []) refl)
 
--- src/progress.rt:132:26
 enum-told : tie.Need-enum-told
 enum-told c = search needs
 
--- src/progress.rt:132:26
 looked-at-requires-2 : tie.Need-looked-at-requires-2
 looked-at-requires-2 c κs = let a = c .before .before .before .before .before .before .before .before .before .before .before .before .before .before .before .before .before .before .before .before .args in
     let g = c .before .before .before .before .before .before .before .before .find in
     let t = c .before .before .before .before .before .before .before .before .before .before .before .before .before .before .tail in
     rw (t .ensures) (answered-sound (now (a .input)) (a .fault) (a .marks) (a .faults) (now (a .first)) (now (a .second)) (now (a .certificate)) (now (a .line)) (g .last .1 .1 .1 .1 .0) (g .last .1 .1 .1 .1 .1 .0) (g .last .1 .1 .1 .1 .1 .1 .0) (t .ensures) (c .before .before .before .before .before .before .before .before .before .before .before .before .before .byte-at .ensures) (c .before .before .before .before .before .before .before .before .before .before .before .before .byte-at2 .ensures) Finding.None (c .enum-told .given .1) (g .ensures .0) [] refl, answered-exists (now (a .input)) (a .fault) (a .marks) (a .faults) (now (a .first)) (now (a .second)) (now (a .certificate)) (now (a .line)) (g .last .1 .1 .1 .1 .0) (g .last .1 .1 .1 .1 .1 .0) (g .last .1 .1 .1 .1 .1 .1 .0) (t .ensures) (c .before .before .before .before .before .before .before .before .before .before .before .before .before .byte-at .ensures) (c .before .before .before .before .before .before .before .before .before .before .before .before .byte-at2 .ensures) Finding.None (c .enum-told .given .1) (g .ensures .0) [] refl)
 
--- src/progress.rt:133:26
 enum-known-finding-2 : tie.Need-enum-known-finding-2
 enum-known-finding-2 c = search needs
 
--- src/progress.rt:133:58
 refused-line-requires : tie.Need-refused-line-requires
 refused-line-requires c κs = search needs
 
--- src/progress.rt:133:37
 ended-requires : tie.Need-ended-requires
 ended-requires c κs = search needs
 
--- src/progress.rt:104:1
 same-length : tie.Need-same-length
 same-length c = search needs
 
--- src/progress.rt:104:1
 same-length-2 : tie.Need-same-length-2
 same-length-2 c = search needs
 
--- src/progress.rt:104:1
 same-length-3 : tie.Need-same-length-3
 same-length-3 c = search needs
 
--- src/progress.rt:104:1
 same-length-4 : tie.Need-same-length-4
 same-length-4 c = search needs
 
--- src/progress.rt:104:1
 returns : tie.Need-returns
 unfolding madeFor
 returns c = let a = c .before .before .before .before .before .before .before .before .before .before .before .before .before .before .before .before .before .before .before .before .before .before .before .before .before .before .before .before .args in
@@ -105,19 +87,15 @@ returns c = let a = c .before .before .before .before .before .before .before .b
       (rw here (line .ensures .0 .1), rw (here, t .ensures) (turns-fall (now (a .input)) (a .fault) (answered-exists (now (a .input)) (a .fault) (a .marks) (a .faults) (now (a .first)) (now (a .second)) (now (a .certificate)) (now (a .line)) (g .last .1 .1 .1 .1 .0) (g .last .1 .1 .1 .1 .1 .0) (g .last .1 .1 .1 .1 .1 .1 .0) (t .ensures) (c .before .before .before .before .before .before .before .before .before .before .before .before .before .before .before .before .before .before .before .before .before .byte-at .ensures) (c .before .before .before .before .before .before .before .before .before .before .before .before .before .before .before .before .before .before .before .before .byte-at2 .ensures) (Finding.Found (c .before .before .before .before .before .before .before .before .finding .given .0 .0) (c .before .before .before .before .before .before .before .before .finding .given .0 .1 .0) (c .before .before .before .before .before .before .before .before .finding .given .0 .1 .1 .0)) (c .before .before .before .before .before .before .before .before .finding .given .1) (g .ensures .0) (c .before .before .before .before .before .before .before .before .finding .given .0 .0 ∷ c .before .before .before .before .before .before .before .before .finding .given .0 .1 .0 ∷ c .before .before .before .before .before .before .before .before .finding .given .0 .1 .1 .0 ∷ []) refl))),
     )
 
--- src/progress.rt:104:1
 same-length-5 : tie.Need-same-length-5
 same-length-5 c = search needs
 
--- src/progress.rt:104:1
 same-length-6 : tie.Need-same-length-6
 same-length-6 c = search needs
 
--- src/progress.rt:104:1
 same-length-7 : tie.Need-same-length-7
 same-length-7 c = search needs
 
--- src/progress.rt:104:1
 returns-2 : tie.Need-returns-2
 unfolding madeFor
 returns-2 c = let a = c .before .before .before .before .before .before .before .before .before .before .before .before .before .before .before .before .before .before .before .before .before .args in
@@ -128,23 +106,18 @@ returns-2 c = let a = c .before .before .before .before .before .before .before 
       (rw here (omega arith), rw (here, t .ensures) (turns-fall (now (a .input)) (a .fault) (answered-exists (now (a .input)) (a .fault) (a .marks) (a .faults) (now (a .first)) (now (a .second)) (now (a .certificate)) (now (a .line)) (g .last .1 .1 .1 .1 .0) (g .last .1 .1 .1 .1 .1 .0) (g .last .1 .1 .1 .1 .1 .1 .0) (t .ensures) (c .before .before .before .before .before .before .before .before .before .before .before .before .before .before .byte-at .ensures) (c .before .before .before .before .before .before .before .before .before .before .before .before .before .byte-at2 .ensures) Finding.None (c .before .enum-told .given .1) (g .ensures .0) [] refl))),
     )
 
--- src/progress.rt:104:1
 same-length-8 : tie.Need-same-length-8
 same-length-8 c = search needs
 
--- src/progress.rt:104:1
 same-length-9 : tie.Need-same-length-9
 same-length-9 c = search needs
 
--- src/progress.rt:104:1
 same-length-10 : tie.Need-same-length-10
 same-length-10 c = search needs
 
--- src/progress.rt:104:1
 same-length-11 : tie.Need-same-length-11
 same-length-11 c = search needs
 
--- src/progress.rt:104:1
 returns-3 : tie.Need-returns-3
 unfolding madeFor
 returns-3 c = let a = c .before .before .before .before .before .before .before .before .before .before .before .before .before .before .before .before .before .before .before .before .before .before .before .before .before .before .args in

@@ -7,19 +7,15 @@ use Rattle.listing.proofs.faults.fault_after.Reads as fault-after-reads
 use Rattle.listing.proofs.progress.stage_at.Reads as stage-at-reads
 use Rattle.std.proofs.num.wrapping_add_u32.Reads as wrapping-add-u32-reads
 
--- src/progress.rt:68:35
 fault-after-requires : tie.Need-fault-after-requires
 fault-after-requires c κs = search needs
 
--- src/progress.rt:68:9
 stage-at-requires : tie.Need-stage-at-requires
 stage-at-requires c κs = search needs
 
--- src/progress.rt:72:17
 wrapping-add-u32-requires : tie.Need-wrapping-add-u32-requires
 wrapping-add-u32-requires c κs = search needs
 
--- src/progress.rt:63:1
 returns : tie.Need-returns
 returns c = rw (c .before .stage-at .ensures, c .before .before .fault-after .ensures, c .wrapping-add-u32 .ensures)
 

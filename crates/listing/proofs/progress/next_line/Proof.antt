@@ -9,62 +9,48 @@ use Rattle.listing.proofs.lines.total_line.Reads as total-line-reads
 use Rattle.listing.proofs.progress.ended.Reads as ended-reads
 use Rattle.listing.proofs.progress.look_at.Reads as look-at-reads
 
--- src/progress.rt:154:24
 enum-known-stage : tie.Need-enum-known-stage
 enum-known-stage c = search needs
 
--- src/progress.rt:154:34
 look-at-requires : tie.Need-look-at-requires
 look-at-requires c κs = search needs
 
--- src/progress.rt:164:59
 enum-told : tie.Need-enum-told
 enum-told c = search needs
 
--- src/progress.rt:164:48
 total-line-requires : tie.Need-total-line-requires
 total-line-requires c κs = search needs
 
--- src/progress.rt:164:27
 ended-requires : tie.Need-ended-requires
 ended-requires c κs = search needs
 
--- src/progress.rt:165:24
 enum-told-2 : tie.Need-enum-told-2
 enum-told-2 c = search needs
 
--- src/progress.rt:165:24
 ended-requires-2 : tie.Need-ended-requires-2
 ended-requires-2 c κs = search needs
 
--- src/progress.rt:138:1
 same-length : tie.Need-same-length
 same-length c = search needs
 
--- src/progress.rt:138:1
 same-length-2 : tie.Need-same-length-2
 same-length-2 c = search needs
 
--- src/progress.rt:138:1
 same-length-3 : tie.Need-same-length-3
 same-length-3 c = search needs
 
--- src/progress.rt:138:1
 same-length-4 : tie.Need-same-length-4
 same-length-4 c = search needs
 
--- src/progress.rt:138:1
 returns : tie.Need-returns
 unfolding turnIn faultTurn
 returns c = let g = c .before .before .before .before .before .before .before .before .look-at in
     let q = c .before .before .before .before .before .before .before .before .before .before .before .before .before .before .stage .given .1 in
     (rw q (g .ensures .0), (g .ensures .1 .0, rw q (omega (arith, g .ensures .1 .1))))
 
--- src/progress.rt:138:1
 same-length-5 : tie.Need-same-length-5
 same-length-5 c = search needs
 
--- src/progress.rt:138:1
 returns-2 : tie.Need-returns-2
 unfolding turnIn
 returns-2 c = let t = c .before .before .before .total-line in
@@ -72,7 +58,6 @@ returns-2 c = let t = c .before .before .before .total-line in
     let e = c .ended .ensures in
     (rw (q, e, t .ensures .0 .0, t .ensures .1), (rw e (t .ensures .0 .1), rw e (omega arith)))
 
--- src/progress.rt:138:1
 returns-3 : tie.Need-returns-3
 unfolding turnIn
 returns-3 c = let q = c .before .enum-told2 .given .1 in

@@ -8,16 +8,13 @@ use Rattle.listing.proofs.progress.stage_at.Reads as reads
 use Rattle.listing.proofs.progress.stage_at.Lts as lts
 use Rattle.circuit.proofs.node_count.Reads as node-count-reads
 
--- src/progress.rt:56:21
 node-count-requires : tie.Need-node-count-requires
 node-count-requires c κs = search needs
 
--- src/progress.rt:57:9
 returns : tie.Need-returns
 unfolding stageAt netOf
 returns c = rw (← c .before .before .node-count .ensures, lt-ltb _ _ (c .if1 .taken))
 
--- src/progress.rt:53:1
 returns-2 : tie.Need-returns-2
 unfolding stageAt netOf
 returns-2 c = rw (← c .before .before .node-count .ensures, le-ltb _ _ (c .if1 .left))
