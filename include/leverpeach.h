@@ -1,5 +1,5 @@
-/* The kit for C. Every function answers for any numbers and any bytes, and never stops the program.
-   A slice is passed as a pointer and then its length: the pointer has to be valid for that length, and
+/* The kit for C. Every function answers for any numbers and any bytes, given stack enough: leverpeach_find
+   needs a thread of 72 KiB. A slice is passed as a pointer and then its length: the pointer has to be valid for that length, and
    a slice that is written may overlap no other. README.md says what the answers mean. */
 #ifndef LEVERPEACH_H
 #define LEVERPEACH_H

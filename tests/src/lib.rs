@@ -1,4 +1,5 @@
-//! The kit's library held against a second reading of the paper.
+//! The kit's library held against a second reading of 01, the
+//! document that defines the kit.
 //!
 //! [`model`] is that reading, written without a look at the library's code.
 //! [`native`] is the library, reached through its C interface. [`compare`]

@@ -1,4 +1,4 @@
-//! Cases worked by hand from the paper. The expected values are written out,
+//! Cases worked by hand from 01. The expected values are written out,
 //! and library and model must both give them.
 
 use leverpeach_tests::circuits::worked::{AND_TWICE, INPUT, P1, SELF_FED};

@@ -1,5 +1,6 @@
-//! Certificates worked by hand from the paper. The bytes and the answers are
-//! written out, and library and model must both give them.
+//! Certificates worked by hand from 01. The bytes and the checker's
+//! answers are written out, and library and model must both give them; what is
+//! found here is found by the model.
 
 use leverpeach_tests::circuits::worked::{
     AND_TWICE, INPUT, P1, P1_CERTIFICATE, P7_CERTIFICATE, SELF_FED, SELF_FED_PIN,

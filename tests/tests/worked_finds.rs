@@ -1,4 +1,4 @@
-//! The finder's answers worked by hand from the paper. They are written out, and
+//! The finder's answers worked by hand from 01. They are written out, and
 //! library and model must both give them.
 
 use leverpeach_tests::circuits::calls::Request;

@@ -1,6 +1,6 @@
 //! Makers of netlists, of certificates and of calls: sound at random, sound with
 //! a plan, damaged on purpose, and bytes that only look like a netlist; and the
-//! paper's own circuits.
+//! circuits of 01.
 
 pub mod calls;
 pub mod certificates;

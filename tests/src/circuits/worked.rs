@@ -1,4 +1,4 @@
-//! The paper's bench circuits and their certificates, written out.
+//! 01's bench circuits and their certificates, written out.
 
 /// An AND of one input twice, and its output.
 pub const AND_TWICE: [u8; 25] = [

@@ -1,4 +1,4 @@
-//! The paper in Rust, by subject. Only the text of the report allocates: all
+//! 01 in Rust, by subject. Only the text of the report allocates: all
 //! else works on the lent bytes, so that it also serves as a yardstick for
 //! speed.
 

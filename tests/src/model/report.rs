@@ -89,14 +89,14 @@ fn mark(
 mod tests {
     use super::*;
 
-    /// B 0, F 0 and an AND of one input twice, as the paper writes them.
+    /// B 0, F 0 and an AND of one input twice, as 01 writes them.
     const AND_TWICE: [u8; 27] = [
         0x00, 0x00, 0x03, 0x00, 0x03, 0x00, 0x00, 0x00, 0x00, 0x00, 0x00, 0x05, 0x00, 0x00, 0x02,
         0x00, 0x01, 0x02, 0x00, 0x01, 0x00, 0x00, 0x00, 0x00, 0x00, 0x01, 0x00,
     ];
 
     #[test]
-    fn the_paper_s_example() {
+    fn the_example_of_01() {
         assert_eq!(report(&AND_TWICE), "1 0 1 0 0 0\n1 1 1 0 0 0\n2 of 12\n");
     }
 

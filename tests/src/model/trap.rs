@@ -1,4 +1,4 @@
-//! The paper's traps for a builder. The model can be asked to fall into one,
+//! 01's traps for a builder. The model can be asked to fall into one,
 //! which shows that a test of the claim would notice.
 
 /// A wrong rule in place of a right one.
