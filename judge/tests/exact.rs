@@ -36,8 +36,7 @@ fn the_exact_search_agrees() {
     let (mut proved, mut refuted) = (0, 0);
     run("claims judged", CIRCUITS, |_, random| {
         let draft = small::any(random);
-        let fault = calls::fault(random, &draft).meaning();
-        let fault = fault.expect("these bytes mean a fault");
+        let fault = calls::fault(random, &draft);
         let bytes = draft.to_bytes();
         let claim = Claim::new(&bytes, fault);
         let netlist = Netlist::read(&bytes).expect("the circuit is sound");
