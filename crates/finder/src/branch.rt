@@ -13,6 +13,7 @@ ghost use Rattle.finder.specs.Work.{NotedStayOpen};
 ghost use Rattle.finder.specs.Written.{runBytes};
 use crate::notes::NOTE_UNIT;
 use crate::notes::note_known;
+use crate::notes::note_proposed;
 use crate::split::Split;
 use crate::sweep::Progress;
 use crate::sweep::sweep_to_end;
@@ -100,6 +101,37 @@ fn both_close(
         && branch_closes(netlist, n, fault, f, split, 1, known, marks, noted)
 }
 
+// Whether both branches of a split close, in slices of the window's size. First an open set is looked
+// for that has one of its values; where one is found, nothing is worked out.
+fn decide(
+    netlist: &[u8],
+    n: u16,
+    fault: Fault,
+    f: u8,
+    split: Split,
+    known: &mut [u8],
+    marks: &mut [u8],
+    noted: &mut [u8],
+    fan: &[u16],
+    trail: &mut [u16],
+) -> bool
+    requires { ⌜ reading (now netlist) ≡ sound n (pinCount (now netlist)) ⌝ }
+    requires { ⌜ faultExists (netOf (now netlist)) fault ≡ true ⌝ }
+    requires { ⌜ (split .c + f + 1 ≤ 15) × (split .frame < split .c + f + 1) × (split .node < n) ⌝ }
+    requires { ⌜ (length (now known) ≡ n * (split .c + f + 1)) × (length (now marks) ≡ n * (split .c + f + 1)) ⌝ }
+    requires { ⌜ NotedStayOpen (netOf (now netlist)) fault f (now noted) ⌝ }
+    ensures { λ r. ⌜ r ≡ splitCloses (netOf (now (netlist .entry))) fault f split ⌝ }
+    ensures { λ _. ⌜ NotedStayOpen (netOf (now (netlist .entry))) fault f (now (noted .exit)) ⌝ }
+{
+    note_proposed(netlist, n, fault, f, split, known, marks, noted, fan, trail);
+    let c = split.c;
+    let place = checker::place_of(n, split.node, split.frame as u16);
+    if values::byte_at(noted, place) / NOTE_UNIT == c + 1 {
+        return false;
+    }
+    both_close(netlist, n, fault, f, split, known, marks, noted)
+}
+
 // Whether a split closes, for its c. One that is noted for this c does not, and nothing is worked out.
 pub(crate) fn closes(
     netlist: &[u8],
@@ -110,6 +142,8 @@ pub(crate) fn closes(
     known: &mut [u8],
     marks: &mut [u8],
     noted: &mut [u8],
+    fan: &[u16],
+    trail: &mut [u16],
 ) -> bool
     requires { ⌜ reading (now netlist) ≡ sound n (pinCount (now netlist)) ⌝ }
     requires { ⌜ faultExists (netOf (now netlist)) fault ≡ true ⌝ }
@@ -125,7 +159,7 @@ pub(crate) fn closes(
         return false;
     }
     let size = n as usize * (c as usize + f as usize + 1);
-    both_close(
+    decide(
         netlist,
         n,
         fault,
@@ -134,5 +168,7 @@ pub(crate) fn closes(
         &mut known[..size],
         &mut marks[..size],
         noted,
+        fan,
+        trail,
     )
 }

@@ -7,6 +7,8 @@ ghost use lib.ListN.{length};
 ghost use Rattle.circuit.specs.Fault.{faultExists};
 ghost use Rattle.circuit.specs.Netlist.{netOf, pinCount, reading, sound};
 ghost use Rattle.finder.specs.Work.{HasHeld, KeptOpen, Noted, NotedStayOpen};
+use crate::quick;
+use crate::quick::Window;
 use crate::split::Split;
 use crate::sweep::Progress;
 use crate::sweep::sweep_window;
@@ -94,6 +96,24 @@ fn is_open_set(
     !checker::effect_dies(netlist, fault, c, f, known, marks)
 }
 
+// Whether one of the first values is guessed.
+fn some_guess(noted: &[u8], size: usize) -> bool {
+    let mut place: usize = 0;
+    while place < size {
+        if values::byte_at(noted, place) % NOTE_UNIT < UNKNOWN {
+            return true;
+        }
+        place += 1;
+    }
+    false
+}
+
+// Whether the window of b, of this size, is worth asking before those of smaller c: there are such, and
+// something is guessed.
+pub(crate) fn asks_first(b: u8, noted: &[u8], size: usize) -> bool {
+    b > 0 && some_guess(noted, size)
+}
+
 // Takes the guessed values from a place of the notes on.
 fn take_guess(noted: &[u8], from: usize, known: &mut [u8])
     requires { ⌜ from + length (now known) ≤ length (now noted) ⌝ }
@@ -103,6 +123,68 @@ fn take_guess(noted: &[u8], from: usize, known: &mut [u8])
         known[place] = noted[from + place] % NOTE_UNIT;
         place += 1;
     }
+}
+
+// Notes a set where it keeps its values open.
+fn note_open(
+    netlist: &[u8],
+    n: u16,
+    fault: Fault,
+    c: u8,
+    f: u8,
+    known: &mut [u8],
+    marks: &mut [u8],
+    noted: &mut [u8],
+)
+    requires { ⌜ reading (now netlist) ≡ sound n (pinCount (now netlist)) ⌝ }
+    requires { ⌜ faultExists (netOf (now netlist)) fault ≡ true ⌝ }
+    requires { ⌜ c + f + 1 ≤ 15 ⌝ }
+    requires { ⌜ (length (now known) ≡ n * (c + f + 1)) × (length (now marks) ≡ n * (c + f + 1)) ⌝ }
+    requires { ⌜ NotedStayOpen (netOf (now netlist)) fault f (now noted) ⌝ }
+    ensures { λ _. ⌜ NotedStayOpen (netOf (now (netlist .entry))) fault f (now (noted .exit)) ⌝ }
+{
+    if !is_open_set(netlist, n, fault, c, f, known, marks) {
+        return;
+    }
+    note_known(known, c, noted);
+}
+
+// Looks for an open set that has a value of the split, and notes it.
+pub(crate) fn note_proposed(
+    netlist: &[u8],
+    n: u16,
+    fault: Fault,
+    f: u8,
+    split: Split,
+    known: &mut [u8],
+    marks: &mut [u8],
+    noted: &mut [u8],
+    fan: &[u16],
+    trail: &mut [u16],
+)
+    requires { ⌜ reading (now netlist) ≡ sound n (pinCount (now netlist)) ⌝ }
+    requires { ⌜ faultExists (netOf (now netlist)) fault ≡ true ⌝ }
+    requires { ⌜ split .c + f + 1 ≤ 15 ⌝ }
+    requires { ⌜ (length (now known) ≡ n * (split .c + f + 1)) × (length (now marks) ≡ n * (split .c + f + 1)) ⌝ }
+    requires { ⌜ NotedStayOpen (netOf (now netlist)) fault f (now noted) ⌝ }
+    ensures { λ _. ⌜ NotedStayOpen (netOf (now (netlist .entry))) fault f (now (noted .exit)) ⌝ }
+{
+    let c = split.c;
+    let w = c + f + 1;
+    let window = Window { n, fault, c, w };
+    if !quick::propose(
+        netlist,
+        window,
+        fan,
+        split.node,
+        split.frame,
+        known,
+        trail,
+        noted,
+    ) {
+        return;
+    }
+    note_open(netlist, n, fault, c, f, known, marks, noted);
 }
 
 // Notes the set that is guessed for the window of c, whose values stand from a place of the notes on,
@@ -126,10 +208,7 @@ fn note_guess(
     ensures { λ _. ⌜ NotedStayOpen (netOf (now (netlist .entry))) fault f (now (noted .exit)) ⌝ }
 {
     take_guess(noted, from, known);
-    if !is_open_set(netlist, n, fault, c, f, known, marks) {
-        return;
-    }
-    note_known(known, c, noted);
+    note_open(netlist, n, fault, c, f, known, marks, noted);
 }
 
 // Before the first split of a window is tried, notes what is guessed for it. The guess is for the
