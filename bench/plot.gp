@@ -22,14 +22,16 @@ set yrange [10 ** floor(log10(lowest)) : 10 ** (ceil(log10(STATS_max)) + 1)]
 set multiplot layout 1,2
 set ylabel "processor seconds of a whole report"
 
-set title "mix30, mix100, mix290 with B 2, F 1"
+set title "mix30 to mix1000 with B 2, F 1"
 set xlabel "nodes"
-set xrange [0:320]
-set xtics (30, 100, 290)
+set logscale x
+set xrange [20:1500]
+set xtics (30, 100, 290, 1000)
 plot data index "nodes" using 1:3 with linespoints ls 2 title "literal Rust model", \
      data index "nodes" using 1:2 with linespoints ls 1 title "library"
 
 set title "mix290"
+unset logscale x
 set xlabel "W, the frames of the widest window"
 set xrange [3:16]
 set xtics (4, 8, 11, 15)

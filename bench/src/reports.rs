@@ -45,17 +45,18 @@ impl Case {
 
 /// Every report that is timed, those with a limit and those that show how the
 /// time grows.
-pub const CASES: [Case; 10] = [
+pub const CASES: [Case; 11] = [
     Case::new("mix30", 2, 1, 1),
-    Case::new("mix100", 2, 1, 1).at_least(50.0),
+    Case::new("mix100", 2, 1, 1).at_least(300.0),
     Case::new("mix290", 2, 1, 31),
-    Case::new("random290", 2, 1, 15).at_least(50.0),
+    Case::new("mix1000", 2, 1, 500),
+    Case::new("random290", 2, 1, 15).at_least(300.0),
     Case::new("mix100", 4, 3, 9),
     Case::new("mix100", 5, 5, 15),
     Case::new("mix100", 7, 7, 31),
     Case::new("mix290", 4, 3, 91),
     Case::new("mix290", 5, 5, 121),
-    Case::new("mix290", 7, 7, 121).at_least(500.0),
+    Case::new("mix290", 7, 7, 121).at_least(20_000.0),
 ];
 
 /// A circuit's faults, and the slices that the finder is lent for them.

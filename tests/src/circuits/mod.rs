@@ -6,6 +6,7 @@ pub mod calls;
 pub mod certificates;
 pub mod damaged;
 pub mod draft;
+pub mod mix;
 pub mod mutants;
 pub mod raw;
 pub mod small;
