@@ -1,11 +1,14 @@
-//! Links the kit's C interface, the static library `capi`.
+//! Links the kit's C interface, the static library `capi`, and writes the
+//! finder's sources as Rust for the tests that alter them.
 
 use std::env;
-use std::path::PathBuf;
+use std::path::{Path, PathBuf};
 
-fn main() {
-    let package =
-        PathBuf::from(env::var_os("CARGO_MANIFEST_DIR").expect("cargo names the package"));
+#[path = "build/port.rs"]
+mod port;
+
+/// Has the static library linked.
+fn link_library(package: &Path) {
     let directory = package.join("..").join("target").join("staticlib");
     let archive = directory.join("libcapi.a");
     println!("cargo:rerun-if-changed={}", archive.display());
@@ -16,4 +19,18 @@ fn main() {
     );
     println!("cargo:rustc-link-search=native={}", directory.display());
     println!("cargo:rustc-link-lib=static=capi");
+}
+
+/// A folder that cargo names by an environment variable.
+fn folder(variable: &str) -> PathBuf {
+    PathBuf::from(env::var_os(variable).unwrap_or_else(|| panic!("cargo sets no {variable}")))
+}
+
+fn main() {
+    let package = folder("CARGO_MANIFEST_DIR");
+    link_library(&package);
+    port::write(
+        &package.join("..").join("crates"),
+        &folder("OUT_DIR").join("port.rs"),
+    );
 }
