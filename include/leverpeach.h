@@ -1,6 +1,7 @@
 /* The kit for C. Every function answers for any numbers and any bytes, given stack enough: leverpeach_find
-   needs a thread of 72 KiB. A slice is passed as a pointer and then its length: the pointer has to be valid for that length, and
-   a slice that is written may overlap no other. README.md says what the answers mean. */
+   takes at most 256 KiB of it (tested, not proved), with all that it calls. A slice is passed as a pointer and then its length: the
+   pointer has to be valid for that length, and a slice that is written may overlap no other. README.md says what
+   the answers mean. */
 #ifndef LEVERPEACH_H
 #define LEVERPEACH_H
 
