@@ -7,9 +7,14 @@ use std::path::{Path, PathBuf};
 #[path = "build/port.rs"]
 mod port;
 
+/// Names a folder with another static library than the one of this tree.
+const OTHER_LIBRARY: &str = "LEVERPEACH_LIBRARY";
+
 /// Has the static library linked.
 fn link_library(package: &Path) {
-    let directory = package.join("..").join("target").join("staticlib");
+    println!("cargo:rerun-if-env-changed={OTHER_LIBRARY}");
+    let own = || package.join("..").join("target").join("staticlib");
+    let directory = env::var_os(OTHER_LIBRARY).map_or_else(own, PathBuf::from);
     let archive = directory.join("libcapi.a");
     println!("cargo:rerun-if-changed={}", archive.display());
     assert!(

@@ -11,10 +11,10 @@ pub const LIMIT: f64 = 2.0;
 const REPETITIONS: usize = 101;
 
 /// Node and pin counts; the second are the greatest that a netlist may have.
-const SIZES: [(usize, usize); 2] = [(300, 1_200), (4_096, 16_384)];
+pub const SIZES: [(usize, usize); 2] = [(300, 1_200), (4_096, 16_384)];
 
 /// Steps of a certificate, about.
-const STEPS: [usize; 2] = [1_000, 10_000];
+pub const STEPS: [usize; 2] = [1_000, 10_000];
 
 pub struct Row {
     part: &'static str,

@@ -1,5 +1,6 @@
 //! The certificates that are checked.
 
+use crate::lines::checksum_of;
 use leverpeach_tests::circuits::certificates::{self, Argument};
 use leverpeach_tests::circuits::Draft;
 use leverpeach_tests::model::certificate::Subject;
@@ -76,6 +77,12 @@ impl Checks {
 
     pub fn check_with_model(&mut self) {
         self.check_with(model::check, Checked::Accepted(C));
+    }
+
+    /// Of what the library leaves in the work slices, where it accepts as it must.
+    pub fn checksum(&mut self) -> u64 {
+        self.check_with_library();
+        checksum_of(self.checks.iter().map(|work| (&work.first, &work.second)))
     }
 
     /// Checks every certificate once; each gets this answer.

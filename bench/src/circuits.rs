@@ -1,5 +1,6 @@
 //! The circuits that are read and stepped.
 
+use crate::lines::checksum_of;
 use leverpeach_tests::circuits::{calls, sound};
 use leverpeach_tests::model::{self, Stepped};
 use leverpeach_tests::native::{self, FaultBytes};
@@ -61,6 +62,11 @@ impl Circuits {
         }
     }
 
+    /// Of what the library's reader answers.
+    pub fn reader_checksum(&self) -> u64 {
+        checksum_of(self.circuits.iter().map(|c| native::read(&c.netlist)))
+    }
+
     pub fn simulate_with_library(&mut self) {
         self.simulate_with(native::simulate, 0);
     }
@@ -70,6 +76,12 @@ impl Circuits {
             model::simulate(netlist, fault.meaning(), first, second)
         };
         self.simulate_with(step, Stepped::Done);
+    }
+
+    /// Of what a step of the library leaves in the slices.
+    pub fn simulator_checksum(&mut self) -> u64 {
+        self.simulate_with_library();
+        checksum_of(self.circuits.iter().map(|c| (&c.first, &c.second)))
     }
 
     /// Steps every circuit once; each gets this answer.

@@ -85,7 +85,7 @@ fn processor_seconds() -> f64 {
     microseconds as f64 / 1e6
 }
 
-fn median(mut times: Vec<f64>) -> f64 {
+pub fn median(mut times: Vec<f64>) -> f64 {
     times.sort_by(f64::total_cmp);
     times[times.len() / 2]
 }

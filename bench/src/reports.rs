@@ -1,5 +1,6 @@
 //! Whole reports: the finder on every fault of a circuit.
 
+use crate::lines::checksum_of;
 use crate::measure::{seconds_of, seconds_per_run};
 use leverpeach_tests::circuits::calls::{self, Request};
 use leverpeach_tests::files;
@@ -59,8 +60,11 @@ pub const CASES: [Case; 11] = [
     Case::new("mix290", 7, 7, 121).at_least(20_000.0),
 ];
 
+/// Reports of which only the library's time is taken.
+pub const WITHOUT_MODEL: [Case; 2] = [Case::new("s27", 3, 1, 1), Case::new("random100", 7, 7, 1)];
+
 /// A circuit's faults, and the slices that the finder is lent for them.
-struct Report {
+pub struct Report {
     netlist: Vec<u8>,
     b: u8,
     f: u8,
@@ -71,7 +75,7 @@ struct Report {
 }
 
 impl Report {
-    fn new(case: &Case) -> Self {
+    pub fn new(case: &Case) -> Self {
         let netlist = files::example(case.circuit);
         let circuit = Netlist::sound(&netlist).expect("the example is sound");
         let faults: Vec<Fault> = report::faults(&circuit).collect();
@@ -88,14 +92,28 @@ impl Report {
     }
 
     /// Asks the library for every fault.
-    fn run(&mut self) {
+    pub fn run(&mut self) {
         self.answers.clear();
-        for fault in &self.faults {
-            let netlist = black_box(&self.netlist);
-            let lent = lend(&mut self.slices);
-            let answer = native::find(netlist, *fault, self.b, self.f, lent);
+        for place in 0..self.faults.len() {
+            let answer = self.ask(place);
             self.answers.push(answer);
         }
+    }
+
+    /// Asks the library for the fault at this place.
+    fn ask(&mut self, place: usize) -> u64 {
+        let netlist = black_box(&self.netlist);
+        let lent = lend(&mut self.slices);
+        native::find(netlist, self.faults[place], self.b, self.f, lent)
+    }
+
+    /// Of the library's answers and certificates.
+    pub fn checksum(&mut self) -> u64 {
+        checksum_of((0..self.faults.len()).map(|place| {
+            let answer = self.ask(place);
+            let length = certificate_length(answer);
+            (answer, self.slices[2][..length].to_vec())
+        }))
     }
 
     /// The places of the faults that are marked, or of those that are not.
@@ -125,6 +143,14 @@ impl Report {
         assert_eq!(answer, self.answers[place], "{fault:?}, asked again");
         assert!(*slices == expected, "other bytes for {fault:?}");
         seconds
+    }
+}
+
+/// The length that an answer of the finder names, 0 where nothing is found.
+fn certificate_length(answer: u64) -> usize {
+    match answer >> 32 {
+        0 => 0,
+        _ => answer as u32 as usize,
     }
 }
 

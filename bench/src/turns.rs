@@ -1,0 +1,161 @@
+//! Two libraries side by side. Both export the same names, so that the benchmark
+//! is built over each of them, and the two programs take turns, a process for
+//! each turn of a line.
+
+use crate::lines::{self, Line, Turn};
+use crate::measure::median;
+use crate::tables::{self, three_digits};
+use std::env;
+use std::path::{Path, PathBuf};
+use std::process::{Command, ExitCode};
+
+/// Turns of each library at a line.
+const TURNS: usize = 15;
+
+/// Turns of each library at a line that takes long with both.
+const LONG_TURNS: usize = 5;
+
+/// The seconds from which on that is so.
+const LONG: f64 = 1.0;
+
+/// The word by which this program is asked for one turn.
+pub const LINE: &str = "line";
+
+/// A line with the seconds of all turns, before and after.
+struct Row {
+    name: String,
+    times: [Vec<f64>; 2],
+}
+
+impl Row {
+    fn new(line: &Line) -> Self {
+        Row {
+            name: line.to_string(),
+            times: [Vec::new(), Vec::new()],
+        }
+    }
+
+    fn is_long(&self) -> bool {
+        self.medians().iter().all(|seconds| *seconds >= LONG)
+    }
+
+    fn medians(&self) -> [f64; 2] {
+        self.times.clone().map(median)
+    }
+
+    fn ratio(&self) -> f64 {
+        let [before, after] = self.medians();
+        after / before
+    }
+
+    /// The ratio of the turns that other work on the machine disturbed least.
+    fn ratio_of_fastest(&self) -> f64 {
+        let fastest = |times: &Vec<f64>| times.iter().copied().fold(f64::INFINITY, f64::min);
+        let [before, after] = self.times.each_ref().map(fastest);
+        after / before
+    }
+}
+
+/// Takes one turn at the line of this place, and prints seconds and checksum for
+/// the program that asked for it.
+pub fn take_one(place: &str) -> ExitCode {
+    let place: usize = place.parse().expect("the place is a number");
+    let Turn { seconds, checksum } = lines::all()[place].turn();
+    println!("{seconds} {checksum}");
+    ExitCode::SUCCESS
+}
+
+/// Has the program at this path, which was built over the library of before,
+/// take turns with this one at every line, and prints what they took. Ends with
+/// status 1 where the two libraries answer differently.
+pub fn take_all(before: &str) -> ExitCode {
+    let after = env::current_exe().expect("this program knows where it is");
+    let programs = [PathBuf::from(before), after];
+    let mut rows = Vec::new();
+    for (place, line) in lines::all().iter().enumerate() {
+        eprintln!("timing {line}");
+        let Some(row) = compare(&programs, place, line) else {
+            println!("{line}: the two libraries give different answers or certificates");
+            return ExitCode::FAILURE;
+        };
+        rows.push(row);
+    }
+    print(&rows);
+    ExitCode::SUCCESS
+}
+
+/// The times of both programs at a line, unless their answers differ. Each of
+/// the two goes first in every other turn.
+fn compare(programs: &[PathBuf; 2], place: usize, line: &Line) -> Option<Row> {
+    let mut row = Row::new(line);
+    for turn in 0..TURNS {
+        let mut checksums = [0; 2];
+        for side in [turn % 2, 1 - turn % 2] {
+            let Turn { seconds, checksum } = ask(&programs[side], place);
+            checksums[side] = checksum;
+            row.times[side].push(seconds);
+        }
+        if checksums[0] != checksums[1] {
+            return None;
+        }
+        if turn + 1 == LONG_TURNS && row.is_long() {
+            break;
+        }
+    }
+    Some(row)
+}
+
+/// Has a program take a turn at the line of this place.
+fn ask(program: &Path, place: usize) -> Turn {
+    let asked = Command::new(program)
+        .args([LINE, &place.to_string()])
+        .output();
+    let output = asked.unwrap_or_else(|why| panic!("{}: {why}", program.display()));
+    let said = String::from_utf8_lossy(&output.stdout);
+    let wrong = || -> ! {
+        let why = String::from_utf8_lossy(&output.stderr);
+        panic!("{} took no turn: {said}{why}", program.display())
+    };
+    let Some((seconds, checksum)) = said.trim().split_once(' ') else {
+        wrong()
+    };
+    Turn {
+        seconds: seconds.parse().unwrap_or_else(|_| wrong()),
+        checksum: checksum.parse().unwrap_or_else(|_| wrong()),
+    }
+}
+
+fn print(rows: &[Row]) {
+    println!("Processor seconds of a whole report, which is the finder on every fault, and of");
+    println!("one call on each of the circuits or certificates of a size: medians of turns,");
+    println!("which the two libraries took one after the other. Answers and certificates are");
+    println!("the same. Where the two ratios are far apart, other work disturbed the turns.");
+    println!();
+    let headings = [
+        "Line",
+        "Before s",
+        "After s",
+        "Ratio",
+        "Ratio of the fastest turns",
+        "Turns",
+    ];
+    let cells: Vec<[String; 6]> = rows.iter().map(cells).collect();
+    tables::print(headings, &cells);
+    println!();
+    let largest = rows.iter().max_by(|a, b| a.ratio().total_cmp(&b.ratio()));
+    if let Some(row) = largest {
+        println!("The largest ratio is {:.3}, of {}.", row.ratio(), row.name);
+    }
+}
+
+fn cells(row: &Row) -> [String; 6] {
+    let [before, after] = row.medians();
+    [
+        row.name.clone(),
+        three_digits(before),
+        three_digits(after),
+        format!("{:.3}", row.ratio()),
+        format!("{:.3}", row.ratio_of_fastest()),
+        row.times[0].len().to_string(),
+    ]
+}
