@@ -3,7 +3,7 @@ use mathlib.Core.Bool.{cond}
 use mathlib.Core.List.{List, [], _∷_}
 use Prim.Native.Nat.{_*_, _+_, ℕ}
 use lib.Dec.{eqb}
-use Rattle.circuit.specs.Answer.{Answer, Outcome, answered, refused}
+use Rattle.netlist.specs.Answer.{Answer, Outcome, answered, refused}
 use Rattle.values.specs.Lists.{at}
 use Rattle.circuit.specs.Fault.{fault, siteOf}
 use Rattle.circuit.specs.declared.fault.Circuit.{Circuit}

@@ -5,21 +5,22 @@ ghost use mathlib.Core.Logic.{_⊎_};
 ghost use mathlib.Core.Path.{_≡_};
 ghost use Prim.Native.Nat.{ℕ, _*_, _+_, _<_};
 ghost use lib.ListN.{take};
-ghost use Rattle.circuit.specs.Answer.{numberOf, refused};
-ghost use Rattle.circuit.specs.Netlist.{reading, readingSays};
+ghost use Rattle.netlist.specs.Answer.{numberOf, refused};
+ghost use Rattle.netlist.specs.Netlist.{reading, readingSays};
 ghost use Rattle.circuit.specs.Clock.{simulatorCall, simulation, steppedSays};
 ghost use Rattle.capi.specs.Numbers.{checkNumber, circuitOf, findNumber, numberedFinder, numberedBy, numberedFinding, numberedOutcome, readNumber, siteFault};
-ghost use Rattle.checker.specs.Certificate.{faultOf};
-ghost use Rattle.checker.specs.Statement.{Redundant};
+ghost use Rattle.certificate.specs.Certificate.{faultOf};
+ghost use Rattle.circuit.specs.Statement.{Redundant};
 ghost use Rattle.checker.specs.Checker.{accepted, checkedSays, checkerCall, checking};
-ghost use Rattle.finder.specs.Finder.{finderCall, finding, findingSays, found, nothingFound};
+ghost use Rattle.search.specs.FinderCall.{finderCall};
+ghost use Rattle.finder.specs.Finder.{finding, findingSays, found, nothingFound};
 ghost use Rattle.finder.specs.Marks.{IsMark, NoneCloses};
 use checker::Checked;
 use circuit::Circuit;
 use circuit::Fault;
-use circuit::Reading;
 use circuit::Stepped;
 use finder::Finding;
+use netlist::Reading;
 
 fn fault_of(node: u16, site: u8, u: u8) -> Fault
     ensures { λ r. ⌜ r ≡ siteFault node site u ⌝ }
@@ -86,7 +87,7 @@ fn number_of_finding(answer: Finding) -> u64
 pub extern "C" fn leverpeach_read(netlist: &[u8]) -> u64
     ensures { λ r. ⌜ r ≡ readNumber (reading (now (netlist .entry))) ⌝ }
 {
-    number_of_reading(circuit::read(netlist))
+    number_of_reading(netlist::read(netlist))
 }
 
 // One clock step: 0 for done, or the refusal's number. Where `faulted` is 0 the circuit is good,

@@ -5,22 +5,26 @@ use mathlib.Core.List.{List, [], _++_, _∷_}
 use mathlib.Core.Path.{_≡_, refl}
 use Prim.Native.Nat.{ℕ}
 use lib.ListN.{replicate}
-use Rattle.circuit.proofs.Vectors.{p1, p3, p6, p9}
-use Rattle.circuit.specs.Answer.{Answer, outcome, refused}
+use Rattle.netlist.proofs.Vectors.{p1, p3, p6, p9}
+use Rattle.netlist.specs.Answer.{Answer, outcome, refused}
 use Rattle.circuit.specs.Clock.{pinValues}
 use Rattle.circuit.specs.Fault.{fault, faultExists, linesOf}
 use Rattle.values.specs.Kind.{gate, ruleOf}
 use Rattle.values.specs.Lists.{any, build, every}
-use Rattle.circuit.specs.Netlist.{countFits, kindKnown, netOf, pairJoined, pairStart, pinsOf, reading, sizesAllowed, sound, sourceAllowed, sourceOf, sourcesAllowed}
+use Rattle.netlist.specs.Netlist.{countFits, kindKnown, netOf, pairJoined, pairStart, pinsOf, reading, sizesAllowed, sound, sourceAllowed, sourceOf, sourcesAllowed}
 use Rattle.circuit.specs.declared.fault.Fault.{Fault}
 use Rattle.circuit.specs.declared.fault.Site.the-variants.{Pin, Whole}
-use Rattle.checker.specs.Certificate.{pairsRight, stepsIn, stepsOf}
+use Rattle.certificate.specs.Certificate.{pairsRight, stepsIn, stepsOf}
 use Rattle.checker.specs.Checker.{accepted, checkerCall, checking, closes, follows, judged, replay, replayed, stepWithin, verdict}
-use Rattle.checker.specs.Trace.{effectDies, gateMark, latchedMark, latchedMarks, marksList, nodeMark, pinMark}
-use Rattle.checker.specs.Window.{begin, conclusion, enter, held, inForce, known, outputConclusion, pinConclusion}
-use Rattle.finder.specs.Finder.{answerFor, branchOf, bytesFor, certificateFor, finderCall, finderOutcome, finding, firstSome, found, nothingFound, searched, splitCloses, stepCount, tryFrames, tryNodes, trySplit, tryWindows}
-use Rattle.finder.specs.Sweeps.{rising, saysNothing, sweep, sweepFrame, sweeps, tryLine, useRelation, implied}
-use Rattle.finder.specs.Written.{certificateOf, headBytes, runBytes}
+use Rattle.trace.specs.Trace.{effectDies, gateMark, latchedMark, latchedMarks, marksList, nodeMark, pinMark}
+use Rattle.knowledge.specs.Window.{begin, conclusion, enter, inForce, known, outputConclusion, pinConclusion}
+use Rattle.knowledge.specs.Window.{held}
+use Rattle.search.specs.FinderCall.{finderCall}
+use Rattle.search.specs.FirstSplit.{firstSome, tryFrames, tryNodes, trySplit, tryWindows}
+use Rattle.sweeps.specs.Splits.{branchOf, certificateFor, splitCloses, stepCount}
+use Rattle.finder.specs.Finder.{answerFor, bytesFor, finderOutcome, finding, found, nothingFound, searched}
+use Rattle.sweeps.specs.Sweeps.{rising, saysNothing, sweep, sweepFrame, sweeps, tryLine, useRelation, implied}
+use Rattle.certificate.specs.Written.{certificateOf, headBytes, runBytes}
 
 -- for nodes n = 1 to 5 the step n 00 01 v n 00 01
 abbrev run : ℕ → List ℕ

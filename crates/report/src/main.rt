@@ -1,8 +1,8 @@
 // Prints the report on standard input: B, F (a byte each) and a netlist.
-ghost use Rattle.listing.specs.Turns.{ProgramBuffers, slices};
+ghost use Rattle.report_text.specs.Turns.{ProgramBuffers, slices};
 use libc::STDIN_FILENO;
 use libc::STDOUT_FILENO;
-use listing::LINE_LENGTH;
+use report_text::LINE_LENGTH;
 
 // Prints each line as it is made.
 fn print_report(
@@ -14,9 +14,9 @@ fn print_report(
 )
     requires { ⌜ ProgramBuffers (slices (now known) (now touched) (now certificate) (now line)) ⌝ }
 {
-    let mut progress = listing::begin(input);
-    while !listing::is_over(progress) {
-        progress = listing::next_line(input, progress, known, touched, certificate, line);
+    let mut progress = report_text::begin(input);
+    while !report_text::is_over(progress) {
+        progress = report_text::next_line(input, progress, known, touched, certificate, line);
         let end = progress.length;
         io::write_all(STDOUT_FILENO, &line[..end]);
     }

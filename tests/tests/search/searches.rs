@@ -6,11 +6,11 @@
 
 /// A search that finds nothing.
 pub mod nothing {
-    use crate::port::as_it_is::quick::lanes::Hit;
+    use crate::port::as_it_is::search::quick::lanes::Hit;
     use crate::port::circuit::Fault;
     use crate::port::values::UNKNOWN;
 
-    pub(crate) use crate::port::as_it_is::quick::Window;
+    pub(crate) use crate::port::as_it_is::search::quick::Window;
 
     pub const FAN_LENGTH: usize = 0;
     pub const TRAIL_LENGTH: usize = 0;
@@ -56,13 +56,15 @@ pub mod nothing {
 /// nothing open. Now and then it leaves anything at all in what it is lent, now
 /// and then what the finder's own search finds, but for one value.
 pub mod lies {
-    use crate::port::as_it_is::quick;
-    use crate::port::as_it_is::quick::lanes::Hit;
+    use crate::port::as_it_is::search::quick;
+    use crate::port::as_it_is::search::quick::lanes::Hit;
     use crate::port::circuit::Fault;
     use leverpeach_tests::random::Random;
     use std::cell::RefCell;
 
-    pub(crate) use crate::port::as_it_is::quick::{fan_out, Window, FAN_LENGTH, TRAIL_LENGTH};
+    pub(crate) use crate::port::as_it_is::search::quick::{
+        fan_out, Window, FAN_LENGTH, TRAIL_LENGTH,
+    };
 
     thread_local! {
         static RANDOM: RefCell<Random> = RefCell::new(Random::new(0));

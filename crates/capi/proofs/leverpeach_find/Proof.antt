@@ -2,7 +2,8 @@ use mathlib.Core.Path.{_∙_, ap, subst}
 use lib.ListN.{take}
 use denote.Ref.{now}
 use Rattle.circuit.specs.declared.fault.Fault.{Fault}
-use Rattle.finder.specs.Finder.{FinderOutcome, finderCall, finding, findingSays}
+use Rattle.finder.specs.Finder.{FinderOutcome, finding, findingSays}
+use Rattle.search.specs.FinderCall.{finderCall}
 use Rattle.finder.proofs.FindingLaws.{none-unless-refused}
 use Rattle.finder.specs.Marks.{IsMark, NoneCloses}
 use Rattle.capi.specs.Numbers.{numberedFinder}

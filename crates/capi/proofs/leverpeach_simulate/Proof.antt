@@ -1,5 +1,5 @@
 use mathlib.Core.Path.{ap}
-use Rattle.circuit.specs.Answer.{numberOf}
+use Rattle.netlist.specs.Answer.{numberOf}
 use Rattle.capi.specs.Numbers.{numberedBy}
 use borrow.Author.Needs.{needs}
 use Rattle.capi.proofs.leverpeach_simulate.Statement.{statement}

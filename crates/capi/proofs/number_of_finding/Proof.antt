@@ -2,7 +2,7 @@ use native.Mathlib.Omega.{arith}
 use mathlib.Core.Path.{_≡_, _∙_, ap}
 use Rattle.finder.specs.Finder.{findingSays, found}
 use mathlib.Core.Logic.{inl, inr}
-use Rattle.circuit.specs.Answer.{refused}
+use Rattle.netlist.specs.Answer.{refused}
 use borrow.Author.Needs.{needs}
 use Rattle.capi.proofs.number_of_finding.Statement.{statement}
 use Rattle.capi.proofs.number_of_finding.Tie as tie

@@ -1,7 +1,6 @@
-use Rattle.listing.specs.Turns.{ProgramBuffers, slices}
+use Rattle.report_text.specs.Turns.{ProgramBuffers, slices, turnsLeft}
 use lib.Seq.{length-take-le}
-use Rattle.listing.specs.Turns.{turnsLeft}
-use Rattle.listing.proofs.TurnLaws.{turn-left}
+use Rattle.report_text.proofs.TurnLaws.{turn-left}
 use lib.ListN.{length}
 use borrow.Author.Tests.{not-true}
 use borrow.Author.Needs.{needs}
@@ -14,12 +13,17 @@ use Rattle.report.proofs.print_report.Tie as tie
 use Rattle.report.proofs.print_report.Reads as reads
 use Rattle.report.proofs.print_report.Lts as lts
 use Rattle.io.proofs.write_all.Reads as write-all-reads
-use Rattle.listing.proofs.begin.Reads as begin-reads
-use Rattle.listing.proofs.is_over.Reads as is-over-reads
-use Rattle.listing.proofs.next_line.Reads as next-line-reads
+use Rattle.report_text.proofs.begin.Reads as begin-reads
+use Rattle.report_text.proofs.is_over.Reads as is-over-reads
+use Rattle.report_text.proofs.next_line.Reads as next-line-reads
 
 abbrev Inv-loop : tie.InvT-loop
-Inv-loop input known₀ touched₀ certificate₀ line₀ progress₀ known touched certificate line progress = (length known ≡ length known₀) × (length touched ≡ length touched₀) × (length certificate ≡ length certificate₀) × (length line ≡ length line₀) × ProgramBuffers (slices known touched certificate line)
+Inv-loop input known₀ touched₀ certificate₀ line₀ progress₀ known touched certificate line progress =
+    (length known ≡ length known₀)
+    × (length touched ≡ length touched₀)
+    × (length certificate ≡ length certificate₀)
+    × (length line ≡ length line₀)
+    × ProgramBuffers (slices known touched certificate line)
 
 abbrev μ-loop : tie.MeasureT-loop
 μ-loop input known₀ touched₀ certificate₀ line₀ progress₀ known touched certificate line progress = turnsLeft input (progress .stage)
@@ -37,27 +41,37 @@ next-line-requires : tie.Need-next-line-requires Inv-loop μ-loop
 next-line-requires c κs = search needs
 
 slice-reshare-prefix-write-all : tie.Need-slice-reshare-prefix-write-all Inv-loop μ-loop
-slice-reshare-prefix-write-all c = let n = c .before .before .before .before .before .before .before .before .next-line in
-    omega (arith, n .ensures .1 .0, n .kept .1 .1 .1 .1 .1 .0, c .before .before .before .before .before .before .before .before .before .before .before .before .before .before .before .loop .inv .4 .line)
+slice-reshare-prefix-write-all c =
+    let at-line = c .before .before .before .before .before .before .before .before in
+    let n = at-line .next-line in
+    omega (arith, n .ensures .1 .0, n .kept .1 .1 .1 .1 .1 .0, at-line .before .before .before .before .before .before .before .loop .inv .4 .line)
 
 slice-aggregate-write-all : tie.Need-slice-aggregate-write-all Inv-loop μ-loop
-slice-aggregate-write-all c = let n = c .before .before .before .before .before .before .before .before .before .next-line in
-    let h : n .result .length ≤ length (n .last .1 .1 .1 .1 .1 .0) = omega (arith, n .ensures .1 .0, n .kept .1 .1 .1 .1 .1 .0, c .before .before .before .before .before .before .before .before .before .before .before .before .before .before .before .before .loop .inv .4 .line) in
+slice-aggregate-write-all c =
+    let at-line = c .before .before .before .before .before .before .before .before .before in
+    let n = at-line .next-line in
+    let room = at-line .before .before .before .before .before .before .before .loop .inv .4 .line in
+    let h : n .result .length ≤ length (n .last .1 .1 .1 .1 .1 .0) = omega (arith, n .ensures .1 .0, n .kept .1 .1 .1 .1 .1 .0, room) in
     sym (length-take-le (n .result .length) (n .last .1 .1 .1 .1 .1 .0) h)
 
 write-all-requires : tie.Need-write-all-requires Inv-loop μ-loop
 write-all-requires c κs = search needs
 
 loop-less : tie.Need-loop-less Inv-loop μ-loop
-loop-less c = let a = c .before .before .before .before .before .before .before .before .before .before .before .before .before .before .before .before .before .before .before .before .before .before .before .before .args in
-    let l = c .before .before .before .before .before .before .before .before .before .before .before .before .before .before .before .before .before .loop in
-    let o = c .before .before .before .before .before .before .before .before .before .before .before .before .before .before .before .before .is-over in
-    let h = turn-left (now (a .input)) (l .progress .stage) (sym (o .ensures) ∙ not-true (o .result) (c .before .before .before .before .before .before .before .before .before .before .before .before .before .before .before .if1 .taken)) in
-    omega (arith, h, c .before .before .before .before .before .before .before .before .before .before .next-line .ensures .1 .1)
+loop-less c =
+    let at-line = c .before .before .before .before .before .before .before .before .before .before in
+    let at-test = at-line .before .before .before .before .before in
+    let at-loop = at-test .before .before in
+    let a = at-loop .before .before .before .before .before .before .before .args in
+    let o = at-test .before .is-over in
+    let h = turn-left (now (a .input)) (at-loop .loop .progress .stage) (sym (o .ensures) ∙ not-true (o .result) (at-test .if1 .taken)) in
+    omega (arith, h, at-line .next-line .ensures .1 .1)
 
 loop-again : tie.Need-loop-again Inv-loop μ-loop
-loop-again c = let l = c .before .before .before .before .before .before .before .before .before .before .before .before .before .before .before .before .before .loop in
-    let k = c .before .before .before .before .before .before .before .before .before .before .next-line .kept in
+loop-again c =
+    let at-line = c .before .before .before .before .before .before .before .before .before .before in
+    let l = at-line .before .before .before .before .before .before .before .loop in
+    let k = at-line .next-line .kept in
     let r = l .inv .4 in (
       k .1 .1 .0 ∙ l .inv .0,
       k .1 .1 .1 .0 ∙ l .inv .1,

@@ -1,0 +1,3 @@
+-- Laws of the definitions, which the proofs of this crate and of the crates above cite.
+pub mod LayoutLaws
+pub mod WrittenLaws

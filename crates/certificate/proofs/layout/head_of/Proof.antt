@@ -1,0 +1,54 @@
+use borrow.Author.Needs.{needs}
+use Rattle.certificate.proofs.layout.head_of.Statement.{statement}
+use Rattle.certificate.proofs.layout.head_of.Tie as tie
+use Rattle.certificate.proofs.layout.head_of.Reads as reads
+use Rattle.certificate.proofs.layout.head_of.Lts as lts
+use Rattle.values.proofs.byte_at.Reads as byte-at-reads
+use Rattle.values.proofs.tail.Reads as tail-reads
+use Rattle.values.proofs.u16_at.Reads as u16-at-reads
+use Rattle.circuit.proofs.site_of.Reads as site-of-reads
+
+byte-at-requires : tie.Need-byte-at-requires
+byte-at-requires c κs = search needs
+
+site-of-requires : tie.Need-site-of-requires
+site-of-requires c κs = search needs
+
+u16-at-requires : tie.Need-u16-at-requires
+u16-at-requires c κs = search needs
+
+byte-at-requires-2 : tie.Need-byte-at-requires-2
+byte-at-requires-2 c κs = search needs
+
+tail-requires : tie.Need-tail-requires
+tail-requires c κs = search needs
+
+byte-at-requires-3 : tie.Need-byte-at-requires-3
+byte-at-requires-3 c κs = search needs
+
+byte-at-requires-4 : tie.Need-byte-at-requires-4
+byte-at-requires-4 c κs = search needs
+
+u16-at-requires-2 : tie.Need-u16-at-requires-2
+u16-at-requires-2 c κs = search needs
+
+byte-at-requires-5 : tie.Need-byte-at-requires-5
+byte-at-requires-5 c κs = search needs
+
+returns : tie.Need-returns
+returns c = rw (c .byte-at5 .ensures, c .before .u16-at2 .ensures, c .before .before .byte-at4 .ensures, c .before .before .before .byte-at3 .ensures, c .before .before .before .before .tail .ensures, c .before .before .before .before .before .byte-at2 .ensures, c .before .before .before .before .before .before .u16-at .ensures, c .before .before .before .before .before .before .before .site-of .ensures, c .before .before .before .before .before .before .before .before .byte-at .ensures)
+
+pub head-of-spec : {M : Type 1} → statement M
+head-of-spec =
+    tie.close
+    (tie.spec
+    byte-at-requires
+    site-of-requires
+    u16-at-requires
+    byte-at-requires-2
+    tail-requires
+    byte-at-requires-3
+    byte-at-requires-4
+    u16-at-requires-2
+    byte-at-requires-5
+    returns)

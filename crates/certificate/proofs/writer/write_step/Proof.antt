@@ -1,0 +1,40 @@
+use borrow.Author.Needs.{needs}
+use Rattle.certificate.proofs.writer.write_step.Statement.{statement}
+use Rattle.certificate.proofs.writer.write_step.Tie as tie
+use Rattle.certificate.proofs.writer.write_step.Reads as reads
+use Rattle.certificate.proofs.writer.write_step.Lts as lts
+use Rattle.values.proofs.store.Reads as store-reads
+use Rattle.values.proofs.put_u16.Reads as put-u16-reads
+
+put-u16-requires : tie.Need-put-u16-requires
+put-u16-requires c κs = search needs
+
+store-requires : tie.Need-store-requires
+store-requires c κs = search needs
+
+store-requires-2 : tie.Need-store-requires-2
+store-requires-2 c κs = search needs
+
+put-u16-requires-2 : tie.Need-put-u16-requires-2
+put-u16-requires-2 c κs = search needs
+
+store-requires-3 : tie.Need-store-requires-3
+store-requires-3 c κs = search needs
+
+same-length : tie.Need-same-length
+same-length c = search needs
+
+returns : tie.Need-returns
+returns c = cc
+
+pub write-step-spec : {M : Type 1} → statement M
+write-step-spec =
+    tie.close
+    (tie.spec
+    put-u16-requires
+    store-requires
+    store-requires-2
+    put-u16-requires-2
+    store-requires-3
+    same-length
+    returns)

@@ -1,0 +1,4 @@
+-- Laws of the definitions, which the proofs of this crate and of the crates above cite.
+pub mod TextLaws
+pub mod FaultListLaws
+pub mod WalkLaws

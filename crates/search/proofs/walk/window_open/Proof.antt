@@ -1,0 +1,52 @@
+use native.Mathlib.Omega.{arith}
+use mathlib.Core.Bool.{false≢true}
+use borrow.Author.Needs.{needs}
+use Rattle.search.proofs.walk.window_open.Statement.{statement}
+use Rattle.search.proofs.walk.window_open.Tie as tie
+
+asks-first-requires : tie.Need-asks-first-requires
+asks-first-requires c κs = search needs
+
+note-window-requires : tie.Need-note-window-requires
+note-window-requires c κs =
+    (search needs, (search needs, ((search needs, omega arith), ((search needs, search needs), search needs))))
+
+frames-open-requires : tie.Need-frames-open-requires
+frames-open-requires c κs =
+    (search needs, (search needs, (search needs, ((omega arith, omega arith), search needs))))
+
+same-length : tie.Need-same-length
+same-length c = search needs
+
+same-length-2 : tie.Need-same-length-2
+same-length-2 c = search needs
+
+same-length-3 : tie.Need-same-length-3
+same-length-3 c = search needs
+
+same-length-4 : tie.Need-same-length-4
+same-length-4 c = search needs
+
+returns : tie.Need-returns
+returns c = search needs
+
+same-length-5 : tie.Need-same-length-5
+same-length-5 c = search needs
+
+returns-2 : tie.Need-returns-2
+returns-2 c = ((λ e. absurd (false≢true e)), search needs)
+
+pub window-open-spec : {M : Type 1} → statement M
+window-open-spec =
+    tie.close
+    (tie.spec
+    asks-first-requires
+    note-window-requires
+    frames-open-requires
+    same-length
+    same-length-2
+    same-length-3
+    same-length-4
+    returns
+    same-length-5
+    returns-2)

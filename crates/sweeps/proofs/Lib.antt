@@ -1,0 +1,17 @@
+-- Laws over the definitions of specs/, and the proofs of the functions.
+pub mod RisingLaws
+pub mod SweepLaws
+pub mod ReplayedLaws
+pub mod StillLaws
+pub mod CountingLaws
+pub mod WorkLaws
+pub mod CalmLaws
+pub mod KnownPinLaws
+pub mod StandsLaws
+pub mod OpenSets
+pub mod Earlier
+pub mod TrialLaws
+pub mod KeptLaws
+pub mod GuessLaws
+pub mod PartLaws
+pub mod WindowSize

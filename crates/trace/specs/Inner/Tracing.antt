@@ -1,0 +1,23 @@
+-- The trace of a window with a lent slice of marks.
+use mathlib.Core.Bool.{Bool, cond, false}
+use mathlib.Core.List.{List, []}
+use Prim.Native.Nat.{_*_, _+_, ℕ}
+use lib.Dec.{leb}
+use lib.ListN.{length}
+use Rattle.netlist.specs.Netlist.{Net}
+use Rattle.circuit.specs.Fault.{StuckLines}
+use Rattle.trace.specs.Trace.{cleared, effectDies}
+
+-- the answer of the trace of a window, and what the lent slice of marks then holds
+pub record Traced : Type 0 where
+  pub dies : Bool
+  pub marks : List ℕ
+
+abbrev pub traced : Bool → List ℕ → Traced
+traced dies marks = record { dies = dies; marks = marks }
+
+-- The trace from frame c on, F frames after it: whether the effect dies. The slice of marks has to have a byte for each node and frame
+-- from c on, and these are 0 afterwards; a shorter one stays as it is, and nothing is said to die.
+unfoldable pub tracing : Net → StuckLines → ℕ → ℕ → (ℕ → ℕ → ℕ) → List ℕ → Traced
+tracing net f c F kn marks =
+    cond (leb (net .size * (F + 1)) (length marks)) (traced (effectDies net kn F c f []) (cleared (net .size * (F + 1)) marks)) (traced false marks)
