@@ -8,15 +8,18 @@ use std::fs;
 use std::path::Path;
 
 /// The crates beneath the finder's search. Nothing is altered in them.
-const BENEATH: [&str; 9] = [
+const BENEATH: [&str; 12] = [
     "values",
+    "gates",
     "netlist",
     "circuit",
+    "simulator",
     "certificate",
     "knowledge",
     "trace",
     "checker",
     "witness",
+    "splits",
     "sweeps",
 ];
 
@@ -63,14 +66,14 @@ const BELIEVES_RUNS: Edit = Edit {
 const BELIEVES_PROPOSED: Edit = Edit {
     file: "search/notes.rt",
     old: "        return;\n    }\n    sweeps::note_open(netlist, fault, c, f, known, marks, noted);",
-    new: "        return;\n    }\n    sweeps::note_known(known, c, noted);",
+    new: "        return;\n    }\n    splits::note_known(known, c, noted);",
 };
 
 /// A set that is guessed is not swept.
 const BELIEVES_GUESSED: Edit = Edit {
     file: "search/notes.rt",
     old: "known);\n    sweeps::note_open(netlist, fault, c, f, known, marks, noted);",
-    new: "known);\n    sweeps::note_known(known, c, noted);",
+    new: "known);\n    splits::note_known(known, c, noted);",
 };
 
 /// A guess may hold notes.

@@ -7,10 +7,10 @@ ghost use Prim.Native.Nat.{ℕ, _*_, _+_, _<_};
 ghost use lib.ListN.{take};
 ghost use Rattle.netlist.specs.Answer.{numberOf, refused};
 ghost use Rattle.netlist.specs.Netlist.{reading, readingSays};
-ghost use Rattle.circuit.specs.Clock.{simulatorCall, simulation, steppedSays};
+ghost use Rattle.simulator.specs.Clock.{simulatorCall, simulation, steppedSays};
 ghost use Rattle.capi.specs.Numbers.{checkNumber, circuitOf, findNumber, numberedFinder, numberedBy, numberedFinding, numberedOutcome, readNumber, siteFault};
 ghost use Rattle.certificate.specs.Certificate.{faultOf};
-ghost use Rattle.circuit.specs.Statement.{Redundant};
+ghost use Rattle.simulator.specs.Statement.{Redundant};
 ghost use Rattle.checker.specs.Checker.{accepted, checkedSays, checkerCall, checking};
 ghost use Rattle.search.specs.FinderCall.{finderCall};
 ghost use Rattle.finder.specs.Finder.{finding, findingSays, found, nothingFound};
@@ -18,9 +18,9 @@ ghost use Rattle.finder.specs.Marks.{IsMark, NoneCloses};
 use checker::Checked;
 use circuit::Circuit;
 use circuit::Fault;
-use circuit::Stepped;
 use finder::Finding;
 use netlist::Reading;
+use simulator::Stepped;
 
 fn fault_of(node: u16, site: u8, u: u8) -> Fault
     ensures { λ r. ⌜ r ≡ siteFault node site u ⌝ }
@@ -105,7 +105,7 @@ pub extern "C" fn leverpeach_simulate(
     ensures { λ r. ⌜ numberedOutcome r (now (first .exit)) (now (second .exit)) ≡ numberedBy numberOf (simulation (simulatorCall (now (netlist .entry)) (circuitOf faulted node site u) (now (first .entry)) (now (second .entry)))) ⌝ }
 {
     let circuit = circuit_of(faulted, node, site, u);
-    number_of_step(circuit::simulate(netlist, circuit, first, second))
+    number_of_step(simulator::simulate(netlist, circuit, first, second))
 }
 
 // Whether a certificate is accepted: the refusal's number, or 2^32 + c. Then, from clock c on, every

@@ -5,6 +5,7 @@ ghost use lib.Dec.{leb};
 ghost use lib.ListN.{length};
 ghost use Rattle.certificate.specs.Certificate.{headLength, pairsRight, runLength, runOffset};
 ghost use Rattle.certificate.specs.Inner.Reading.{headOf};
+use crate::step::STEP_LENGTH;
 use circuit::Fault;
 
 // The length of what stands before the steps.
@@ -75,5 +76,6 @@ pub fn layout_right(certificate: &[u8]) -> bool
     let length = certificate.len() as u64;
     start == HEAD_LENGTH as u64
         && (middle == HEAD_LENGTH as u64 + first
-            && (length == middle + second && (first % 7 == 0 && second % 7 == 0)))
+            && (length == middle + second
+                && (first % STEP_LENGTH as u64 == 0 && second % STEP_LENGTH as u64 == 0)))
 }

@@ -9,7 +9,7 @@ use lib.Dec.{leb}
 use lib.ListN.{length, length-take, take}
 use lib.Seq.{length-take-le, take-all}
 use Rattle.values.proofs.ListLaws.{every-at}
-use Rattle.values.specs.Kind.{ruleOf}
+use Rattle.gates.specs.Kind.{ruleOf}
 use Rattle.values.specs.Lists.{every}
 use Rattle.netlist.proofs.NetlistLaws.{pins-length}
 use Rattle.netlist.proofs.SoundLaws.{facts, sound-size}

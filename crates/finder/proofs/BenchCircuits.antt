@@ -7,9 +7,9 @@ use Prim.Native.Nat.{ℕ}
 use lib.ListN.{replicate}
 use Rattle.netlist.proofs.Vectors.{p1, p3, p6, p9}
 use Rattle.netlist.specs.Answer.{Answer, outcome, refused}
-use Rattle.circuit.specs.Clock.{pinValues}
+use Rattle.simulator.specs.Clock.{pinValues}
 use Rattle.circuit.specs.Fault.{fault, faultExists, linesOf}
-use Rattle.values.specs.Kind.{gate, ruleOf}
+use Rattle.gates.specs.Kind.{gate, ruleOf}
 use Rattle.values.specs.Lists.{any, build, every}
 use Rattle.netlist.specs.Netlist.{countFits, kindKnown, netOf, pairJoined, pairStart, pinsOf, reading, sizesAllowed, sound, sourceAllowed, sourceOf, sourcesAllowed}
 use Rattle.circuit.specs.declared.fault.Fault.{Fault}
@@ -17,8 +17,7 @@ use Rattle.circuit.specs.declared.fault.Site.the-variants.{Pin, Whole}
 use Rattle.certificate.specs.Certificate.{pairsRight, stepsIn, stepsOf}
 use Rattle.checker.specs.Checker.{accepted, checkerCall, checking, closes, follows, judged, replay, replayed, stepWithin, verdict}
 use Rattle.trace.specs.Trace.{effectDies, gateMark, latchedMark, latchedMarks, marksList, nodeMark, pinMark}
-use Rattle.knowledge.specs.Window.{begin, conclusion, enter, inForce, known, outputConclusion, pinConclusion}
-use Rattle.knowledge.specs.Window.{held}
+use Rattle.knowledge.specs.Window.{begin, conclusion, enter, inForce, known, outputConclusion, pinConclusion, held}
 use Rattle.search.specs.FinderCall.{finderCall}
 use Rattle.search.specs.FirstSplit.{firstSome, tryFrames, tryNodes, trySplit, tryWindows}
 use Rattle.sweeps.specs.Splits.{branchOf, certificateFor, splitCloses, stepCount}

@@ -20,7 +20,7 @@ use Rattle.search.specs.FinderCall.{FinderCall, finderTests, frames}
 use Rattle.search.specs.FirstSplit.{IsFirst, firstSplit}
 use Rattle.sweeps.specs.Splits.{certificateFor, stepCount}
 use Rattle.certificate.specs.Written.{written}
-use Rattle.sweeps.specs.declared.split.Split.{Split}
+use Rattle.splits.specs.declared.split.Split.{Split}
 use Rattle.finder.specs.Finder.{FinderOutcome, answerFor, bytesFor, finderOutcome, finding, found, nothingFound, searched, turnedBack}
 use Rattle.finder.specs.Marks.{IsMark, NoneCloses}
 use Rattle.knowledge.specs.Window.{mostFrames}

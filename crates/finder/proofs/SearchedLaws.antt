@@ -13,7 +13,7 @@ use borrow.Author.Tests.{leb-true}
 use Rattle.netlist.proofs.SoundLaws.{facts, sound-size}
 use Rattle.netlist.specs.Answer.{Answer, answered, refusal, refused}
 use Rattle.circuit.specs.Fault.{faultExists}
-use Rattle.netlist.specs.Netlist.{netOf, nodeCount, pinCount, reading, sound}
+use Rattle.netlist.specs.Netlist.{netOf, nodeCount, pinCount, reading, sound, mostNodes}
 use Rattle.trace.specs.Trace.{cleared}
 use Rattle.search.proofs.SearchLaws.{answered-split}
 use Rattle.search.proofs.TestLaws.{window-size}
@@ -26,10 +26,9 @@ use Rattle.sweeps.specs.Inner.Trials.{certified, certifying}
 use Rattle.sweeps.specs.Splits.{certificateFor, stepCount}
 use Rattle.certificate.specs.Written.{written}
 use Rattle.search.specs.declared.answer.Searched.{Searched}
-use Rattle.sweeps.specs.declared.split.Split.{Split}
+use Rattle.splits.specs.declared.split.Split.{Split}
 use Rattle.finder.specs.Finder.{FinderOutcome, answerFor, bytesFor, finderOutcome, finding, found, nothingFound, searched, turnedBack}
 use Rattle.knowledge.specs.Window.{mostFrames}
-use Rattle.netlist.specs.Netlist.{mostNodes}
 use Rattle.certificate.specs.Certificate.{headLength}
 
 module _ (a : FinderCall) where

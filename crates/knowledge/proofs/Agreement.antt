@@ -5,13 +5,13 @@ use Prim.Native.Nat.{_<_, _≤_, pred, suc, zero, ℕ}
 use native.Mathlib.Omega.{arith}
 use lib.ListN.{set}
 use Rattle.knowledge.specs.Window.{conclusion, outputConclusion, pinConclusion, pinFrame}
-use Rattle.circuit.proofs.ClockLaws.{Ordered, pinValues-agree}
-use Rattle.circuit.specs.Clock.{pinValues}
+use Rattle.simulator.proofs.ClockLaws.{Ordered, pinValues-agree}
+use Rattle.simulator.specs.Clock.{pinValues}
 use Rattle.circuit.specs.Fault.{StuckLines}
-use Rattle.values.specs.Kind.{controlling, gate, isFlipFlop, ruleOf}
+use Rattle.gates.specs.Kind.{controlling, gate, isFlipFlop, ruleOf}
 use Rattle.values.specs.Lists.{at, every}
 use Rattle.netlist.specs.Netlist.{Net}
-use Rattle.values.specs.Value.{differ, isUnknown, neg}
+use Rattle.gates.specs.Value.{differ, isUnknown, neg}
 
 -- two functions agree at every node
 abbrev pub SameNodes : Net → (ℕ → ℕ) → (ℕ → ℕ) → Type 0

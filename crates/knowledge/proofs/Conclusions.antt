@@ -10,15 +10,15 @@ use lib.Seq.{set-getD}
 use Rattle.knowledge.proofs.Model.{Model}
 use Rattle.knowledge.proofs.Monotone.{Shut}
 use Rattle.knowledge.specs.Window.{conclusion, inForce, outputConclusion, pinConclusion, pinFrame}
-use Rattle.values.proofs.GateLaws.{Refines}
+use Rattle.gates.proofs.GateLaws.{Refines}
 use Rattle.values.proofs.ListLaws.{indexed-at}
-use Rattle.values.proofs.ValueLaws.{differing, stuck-free, unknown-is}
-use Rattle.circuit.specs.Clock.{pinValues}
+use Rattle.gates.proofs.ValueLaws.{differing, stuck-free, unknown-is}
+use Rattle.simulator.specs.Clock.{pinValues}
 use Rattle.circuit.specs.Fault.{StuckLines}
-use Rattle.values.specs.Kind.{controlling, gate, ruleOf}
+use Rattle.gates.specs.Kind.{controlling, gate, ruleOf}
 use Rattle.values.specs.Lists.{at}
 use Rattle.netlist.specs.Netlist.{Net}
-use Rattle.values.specs.Value.{differ, isUnknown, neg, stuckOr}
+use Rattle.gates.specs.Value.{differ, isUnknown, neg, stuckOr}
 
 -- pin k is not w where w there would give another output than the one that the gate has
 not-filled : (kind : ℕ) (vs : List ℕ) (y k w : ℕ) → y ≡ gate kind vs → differ (gate kind (set vs k w)) y ≡ true → getD vs k w ≡ w → ⊥

@@ -18,11 +18,11 @@ use Rattle.knowledge.specs.Window.{Branch, begin, enter, known, presentB
 use Rattle.knowledge.specs.Inner.Slice.{Entered, Holds, beginAt, beginIn, enterAt, entered, holdFrames}
 use Rattle.values.proofs.BoolLaws.{and-left, and-right}
 use Rattle.circuit.proofs.FaultLaws.{other-nodes}
-use Rattle.values.proofs.ValueLaws.{differing, known-low, stuck-free, stuck-known, unknown-free, unknown-high}
+use Rattle.gates.proofs.ValueLaws.{differing, known-low, stuck-free, stuck-known, unknown-free, unknown-high}
 use Rattle.circuit.specs.Fault.{StuckLines, faultExists, isWhole, linesOf, noneStuck, siteExists}
 use Rattle.values.specs.Lists.{at}
 use Rattle.netlist.specs.Netlist.{Net}
-use Rattle.values.specs.Value.{differ, isUnknown, stuckOr}
+use Rattle.gates.specs.Value.{differ, isUnknown, stuckOr}
 use Rattle.circuit.specs.declared.fault.Fault.{Fault}
 use Rattle.certificate.specs.declared.step.Step.{Step}
 

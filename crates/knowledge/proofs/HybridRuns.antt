@@ -7,8 +7,8 @@ use native.Mathlib.Nat.{le-of-suc-le-suc, not-suc-le-zero, suc-add, zero-add}
 use native.Mathlib.Omega.{arith}
 use lib.ListN.{drop, getD, length}
 use Rattle.knowledge.specs.Window.{presentBelow}
-use Rattle.circuit.proofs.RunLaws.{Bits, SameAt, latchedAfter-agree, latchedAfter-binary, seenAfter-agree, seenAfter-binary}
-use Rattle.circuit.specs.ClockLists.{ClockList, InputBits, LatchedBits, first-clock, latchedAfter, latchedBefore, no-clocks, run, seenAfter}
+use Rattle.simulator.proofs.RunLaws.{Bits, SameAt, latchedAfter-agree, latchedAfter-binary, seenAfter-agree, seenAfter-binary}
+use Rattle.simulator.specs.ClockLists.{ClockList, InputBits, LatchedBits, first-clock, latchedAfter, latchedBefore, no-clocks, run, seenAfter}
 use Rattle.circuit.specs.Fault.{StuckLines, noneStuck}
 use Rattle.values.specs.Lists.{at}
 use Rattle.netlist.specs.Netlist.{Net}

@@ -7,17 +7,17 @@ use borrow.Author.Tests.{eqb-true, not-true}
 use Rattle.knowledge.proofs.HybridRuns.{latchedIn, latchedIn-next, seenIn, seenIn-binary, seenIn-step}
 use Rattle.knowledge.specs.Window.{hasRelation, inForce, outputConclusion, pinFrame, held}
 use Rattle.values.proofs.BoolLaws.{and-left, and-right}
-use Rattle.circuit.proofs.ClockLaws.{Ordered, latched-at, seen-law, seenBy-gate, seenBy-given}
-use Rattle.values.proofs.GateLaws.{Refines, flip-flop-value, stuck-refines}
-use Rattle.circuit.proofs.RunLaws.{start-latched}
-use Rattle.values.proofs.ValueLaws.{unknown-is}
-use Rattle.circuit.specs.Clock.{latchedBy, pinValues, seenBy}
-use Rattle.circuit.specs.ClockLists.{InputBits, LatchedBits, clockStart, latchedAfter, seenAfter}
+use Rattle.simulator.proofs.ClockLaws.{Ordered, latched-at, seen-law, seenBy-gate, seenBy-given}
+use Rattle.gates.proofs.GateLaws.{Refines, flip-flop-value, stuck-refines}
+use Rattle.simulator.proofs.RunLaws.{start-latched}
+use Rattle.gates.proofs.ValueLaws.{unknown-is}
+use Rattle.simulator.specs.Clock.{latchedBy, pinValues, seenBy}
+use Rattle.simulator.specs.ClockLists.{InputBits, LatchedBits, clockStart, latchedAfter, seenAfter}
 use Rattle.circuit.specs.Fault.{StuckLines}
-use Rattle.values.specs.Kind.{gate, isFlipFlop, isGiven, isInput}
+use Rattle.gates.specs.Kind.{gate, isFlipFlop, isGiven, isInput}
 use Rattle.values.specs.Lists.{at}
 use Rattle.netlist.specs.Netlist.{Net}
-use Rattle.values.specs.Value.{isUnknown}
+use Rattle.gates.specs.Value.{isUnknown}
 
 -- values of 0 and 1 that keep to what is held and to every relation in force
 pub record Model (net : Net) (S : ℕ → StuckLines) (v : ℕ → ℕ → ℕ) : Type 0 where

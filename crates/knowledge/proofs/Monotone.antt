@@ -6,15 +6,15 @@ use Prim.Native.Nat.{_<_, suc, zero, ℕ}
 use native.Mathlib.Omega.{arith}
 use lib.ListN.{length, set}
 use Rattle.knowledge.specs.Window.{conclusion, inForce, outputConclusion, pinConclusion, pinFrame, held}
-use Rattle.values.proofs.GateLaws.{Refines, RefinesAll, controlling-low, gate-mono}
-use Rattle.values.proofs.RefinementLaws.{differ-mono, not-against-both, refines-agree, refines-trans, set-mono}
-use Rattle.circuit.proofs.ClockLaws.{Ordered, pinValues-refines}
-use Rattle.circuit.specs.Clock.{pinValues}
+use Rattle.gates.proofs.GateLaws.{Refines, RefinesAll, controlling-low, gate-mono}
+use Rattle.gates.proofs.RefinementLaws.{differ-mono, not-against-both, refines-agree, refines-trans, set-mono}
+use Rattle.simulator.proofs.ClockLaws.{Ordered, pinValues-refines}
+use Rattle.simulator.specs.Clock.{pinValues}
 use Rattle.circuit.specs.Fault.{StuckLines}
-use Rattle.values.specs.Kind.{controlling, gate, ruleOf}
+use Rattle.gates.specs.Kind.{controlling, gate, ruleOf}
 use Rattle.values.specs.Lists.{at}
 use Rattle.netlist.specs.Netlist.{Net}
-use Rattle.values.specs.Value.{differ, isUnknown, neg}
+use Rattle.gates.specs.Value.{differ, isUnknown, neg}
 
 -- w knows all that v does of the nodes of a frame
 abbrev pub MoreAt : Net → (ℕ → ℕ) → (ℕ → ℕ) → Type 0

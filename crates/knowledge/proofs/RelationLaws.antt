@@ -14,19 +14,16 @@ use lib.ListN.{getD, length, set}
 use borrow.Author.Tests.{eq-eqb, eqb-false, eqb-true, ne-eqb}
 use Rattle.knowledge.specs.Window.{conclusion, hasRelation, inForce, known, outputConclusion, pinConclusion, pinFrame, presentBelow, held}
 use Rattle.certificate.specs.declared.step.Step.{Step}
-use Rattle.values.proofs.GateLaws.{Controls, EveryPin, OtherPins, SomePin, controls-binary, controls-controlling, neg-binary}
-use Rattle.values.proofs.GateLaws.{controlled, controlled-by, uncontrolled, uncontrolled-by, unsettled}
-use Rattle.values.proofs.GateLaws.{Parity, parity-open, parity-value, set-controlled, set-uncontrolled, set-uncontrolled-by, xnor-parity, xor-parity}
-use Rattle.values.proofs.GateLaws.{Wired, buffer-wired, flip-flop-wired, not-wired, output-wired, wired-value}
+use Rattle.gates.proofs.GateLaws.{Controls, EveryPin, OtherPins, SomePin, controls-binary, controls-controlling, neg-binary, controlled, controlled-by, uncontrolled, uncontrolled-by, unsettled, Parity, parity-open, parity-value, set-controlled, set-uncontrolled, set-uncontrolled-by, xnor-parity, xor-parity, Wired, buffer-wired, flip-flop-wired, not-wired, output-wired, wired-value}
 use Rattle.values.proofs.ListLaws.{list-of-one, list-of-two}
-use Rattle.circuit.proofs.PinLaws.{pin-count, pin-reads}
-use Rattle.values.proofs.ValueLaws.{differ-opposite, differ-same, differ-unknown, known-low, neg-neg, opposite-differ, stuck-free, stuck-known, unknown-high}
-use Rattle.circuit.specs.Clock.{pinValues}
+use Rattle.simulator.proofs.PinLaws.{pin-count, pin-reads}
+use Rattle.gates.proofs.ValueLaws.{differ-opposite, differ-same, differ-unknown, known-low, neg-neg, opposite-differ, stuck-free, stuck-known, unknown-high}
+use Rattle.simulator.specs.Clock.{pinValues}
 use Rattle.circuit.specs.Fault.{StuckLines, noneStuck}
-use Rattle.values.specs.Kind.{controlling, gate, invertedIf, isFlipFlop, isGiven, isInput, ruleOf}
+use Rattle.gates.specs.Kind.{controlling, gate, invertedIf, isFlipFlop, isGiven, isInput, ruleOf}
 use Rattle.values.specs.Lists.{at}
 use Rattle.netlist.specs.Netlist.{Net}
-use Rattle.values.specs.Value.{differ, isUnknown, neg}
+use Rattle.gates.specs.Value.{differ, isUnknown, neg}
 
 -- the choice that pinConclusion makes: where setting the pin to w, or else to its opposite, makes the output another
 abbrev picked : Bool → Bool → ℕ → ℕ

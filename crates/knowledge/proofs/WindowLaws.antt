@@ -11,13 +11,13 @@ use lib.Seq.{getD-drop}
 use Rattle.knowledge.specs.Window.{Branch, begin, conclusion, enter, hasRelation, known, lineFrame, lineNode, outputConclusion, pinConclusion, pinFrame}
 use Rattle.knowledge.specs.Inner.Slice.{knownIn}
 use Rattle.certificate.specs.declared.step.Step.{Step}
-use Rattle.values.proofs.ValueLaws.{known-low, unknown-high}
-use Rattle.circuit.specs.Clock.{pinValues}
+use Rattle.gates.proofs.ValueLaws.{known-low, unknown-high}
+use Rattle.simulator.specs.Clock.{pinValues}
 use Rattle.circuit.specs.Fault.{StuckLines}
-use Rattle.values.specs.Kind.{controlling, gate, isFlipFlop, isInput, ruleOf}
+use Rattle.gates.specs.Kind.{controlling, gate, isFlipFlop, isInput, ruleOf}
 use Rattle.values.specs.Lists.{at}
 use Rattle.netlist.specs.Netlist.{Net}
-use Rattle.values.specs.Value.{differ, isUnknown, neg}
+use Rattle.gates.specs.Value.{differ, isUnknown, neg}
 
 -- a relation's pins: a flip-flop's stand one frame earlier
 pub frame-before : (k t : ℕ) → isFlipFlop k ≡ true → t - 1 ≡ pinFrame k t

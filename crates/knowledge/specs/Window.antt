@@ -3,12 +3,12 @@ use mathlib.Core.Bool.{Bool, _&&_, cond, false, not, true}
 use mathlib.Core.List.{List, [], _++_, _∷_}
 use Prim.Native.Nat.{_*_, _+_, pred, suc, zero, ℕ}
 use lib.ListN.{getD, replicate, set}
-use Rattle.circuit.specs.Clock.{pinValues}
+use Rattle.simulator.specs.Clock.{pinValues}
 use Rattle.circuit.specs.Fault.{StuckLines, noneStuck}
-use Rattle.values.specs.Kind.{controlling, gate, isFlipFlop, isGiven, isInput, ruleOf}
+use Rattle.gates.specs.Kind.{controlling, gate, isFlipFlop, isGiven, isInput, ruleOf}
 use Rattle.values.specs.Lists.{at}
 use Rattle.netlist.specs.Netlist.{Net}
-use Rattle.values.specs.Value.{differ, isUnknown, neg, stuckOr}
+use Rattle.gates.specs.Value.{differ, isUnknown, neg, stuckOr}
 use Rattle.certificate.specs.declared.step.Step.{Step}
 
 -- the most frames of a window

@@ -10,9 +10,9 @@ use certificate::Step;
 use circuit::Circuit;
 use circuit::Fault;
 use circuit::NOT_STUCK;
-use values::FLIP_FLOP;
-use values::INPUT;
-use values::UNKNOWN;
+use gates::FLIP_FLOP;
+use gates::INPUT;
+use gates::UNKNOWN;
 
 // The fault is present in frames below c, and absent from c on.
 fn circuit_in(fault: Fault, c: u8, frame: u8) -> Circuit
@@ -41,7 +41,7 @@ fn has_relation(kind: u8, frame: u8) -> bool
     ensures { λ r. ⌜ r ≡ hasRelation kind frame ⌝ }
 {
     if frame == 0 {
-        return !values::is_given(kind);
+        return !gates::is_given(kind);
     }
     kind != INPUT
 }
@@ -72,16 +72,16 @@ fn pin_conclusion(
     if circuit::stuck_pin(circuit, node, pin) < NOT_STUCK {
         return UNKNOWN;
     }
-    let rule = values::rule_of(netlist::kind_of(netlist, node));
+    let rule = gates::rule_of(netlist::kind_of(netlist, node));
     let gate = rule.gate;
-    let first = values::controlling_value(gate);
-    let second = values::negation(first);
-    let with_first = circuit::gate_assuming(netlist, circuit, values, node, pin, first);
-    if values::values_differ(with_first, output) {
+    let first = gates::controlling_value(gate);
+    let second = gates::negation(first);
+    let with_first = simulator::gate_assuming(netlist, circuit, values, node, pin, first);
+    if gates::values_differ(with_first, output) {
         return second;
     }
-    let with_second = circuit::gate_assuming(netlist, circuit, values, node, pin, second);
-    if values::values_differ(with_second, output) {
+    let with_second = simulator::gate_assuming(netlist, circuit, values, node, pin, second);
+    if gates::values_differ(with_second, output) {
         return first;
     }
     UNKNOWN
@@ -116,7 +116,7 @@ pub fn conclude(
     let circuit = circuit_in(fault, c, pins_at);
     let values = values::tail(known, place_of(n, 0, pins_at as u16));
     if line == 0 {
-        let value = circuit::gate_value(netlist, circuit, values, node);
+        let value = simulator::gate_value(netlist, circuit, values, node);
         return Step {
             node,
             frame,

@@ -8,7 +8,7 @@ ghost use Rattle.netlist.specs.Netlist.{netOf};
 ghost use Rattle.knowledge.specs.Inner.Slice.{beginIn, enterAt, entered, holdFrames};
 use circuit::Circuit;
 use circuit::Fault;
-use values::UNKNOWN;
+use gates::UNKNOWN;
 
 // The most frames of a window.
 pub const MOST_FRAMES: u16 = 15;
@@ -57,7 +57,7 @@ pub fn begin_branch(
     let n = netlist::node_count(netlist);
     hold_fault(n, fault, c, known);
     let place = place_of(n, node, frame as u16);
-    if values::values_differ(values::byte_at(known, place), v) {
+    if gates::values_differ(values::byte_at(known, place), v) {
         return true;
     }
     values::store(known, place, v);

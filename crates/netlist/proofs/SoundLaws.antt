@@ -14,7 +14,7 @@ use Rattle.values.proofs.ListLaws.{every-at, every-by}
 use Rattle.netlist.proofs.NetlistLaws.{read-sound}
 use Rattle.netlist.proofs.RefusalLaws.{FirstFails, NoneSmaller, Passed, refusal-none, refusal-above, refusal-smallest, refusal-some}
 use Rattle.netlist.specs.Answer.{answered, refusal, refused}
-use Rattle.values.specs.Kind.{isFlipFlop, isOutput, lastKind, ruleOf}
+use Rattle.gates.specs.Kind.{isFlipFlop, isOutput, lastKind, ruleOf}
 use Rattle.values.specs.Lists.{every}
 use Rattle.netlist.specs.Netlist.{countFits, kindKnown, kindOf, lengthOf, mostNodes, mostPinsInAll, netOf, nodeCount, offsetOf, pairJoined, pairStart, pinCount, readerTests, reading, sizesAllowed, sound, sourceAllowed, sourceOf, sourcesAllowed}
 

@@ -4,7 +4,7 @@ use mathlib.Core.Path.{_≡_, refl}
 use Prim.Native.Nat.{_*_, ℕ}
 use lib.ListN.{replicate}
 use Rattle.netlist.specs.Answer.{refused}
-use Rattle.values.specs.Kind.{ruleOf}
+use Rattle.gates.specs.Kind.{ruleOf}
 use Rattle.values.specs.Lists.{every}
 use Rattle.netlist.specs.Netlist.{countFits, kindKnown, pairJoined, pairStart, reading, sizesAllowed, sound, sourceAllowed, sourceOf, sourcesAllowed}
 

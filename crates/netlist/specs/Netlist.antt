@@ -6,7 +6,7 @@ use Prim.Native.Nat.{_*_, _+_, suc, zero, ℕ}
 use lib.Dec.{eqb, leb, ltb}
 use lib.ListN.{length}
 use Rattle.netlist.specs.Answer.{Answer, Test, answered, refusal, refused}
-use Rattle.values.specs.Kind.{isFlipFlop, isKind, isOutput, ruleOf}
+use Rattle.gates.specs.Kind.{isFlipFlop, isKind, isOutput, ruleOf}
 use Rattle.values.specs.Lists.{at, every, table, u16At}
 use Rattle.netlist.specs.declared.reader.Reading.{Reading}
 

@@ -2,6 +2,7 @@
 mod reader;
 
 pub use reader::MOST_NODES;
+pub use reader::MOST_PINS_IN_ALL;
 pub use reader::Reading;
 pub use reader::kind_of;
 pub use reader::length_of;

@@ -1,23 +1,23 @@
 // The netlist: what its bytes say, and whether they are a sound netlist.
 ghost use mathlib.Core.Path.{_≡_};
 ghost use mathlib.Core.Bool.{_&&_, cond};
-ghost use Rattle.values.specs.Kind.{isFlipFlop};
+ghost use Rattle.gates.specs.Kind.{isFlipFlop};
 ghost use lib.Dec.{eqb};
 ghost use Prim.Native.Nat.{_*_, _+_, _<_};
 ghost use Rattle.netlist.specs.Answer.{numberOf};
 ghost use Rattle.values.specs.Lists.{every, u16At};
 ghost use Rattle.netlist.specs.Netlist.{nodeCount, pinCount, kindOf, offsetOf, lengthOf, sourceOf, pairStart, sizesAllowed, kindKnown, pairJoined, countFits, sourceAllowed, sourcesAllowed, reading, readingSays};
-use values::FLIP_FLOP;
-use values::LAST_KIND;
-use values::OUTPUT;
+use gates::FLIP_FLOP;
+use gates::LAST_KIND;
+use gates::OUTPUT;
+use gates::rule_of;
 use values::byte_at;
-use values::rule_of;
 use values::u16_at;
 
 // The most nodes, and the most pins of all nodes together.
 pub const MOST_NODES: u16 = 4096;
 
-const MOST_PINS_IN_ALL: u16 = 16384;
+pub const MOST_PINS_IN_ALL: u16 = 16384;
 
 // What reading a netlist finds: N and P of a sound one, or the refusal's number.
 pub enum Reading {

@@ -4,7 +4,7 @@ use native.Mathlib.Omega.{arith}
 use lib.ListN.{length, length-append}
 use Rattle.circuit.specs.Fault.{siteByte}
 use Rattle.circuit.specs.declared.fault.Fault.{Fault}
-use Rattle.sweeps.specs.declared.split.Split.{Split}
+use Rattle.splits.specs.declared.split.Split.{Split}
 use Rattle.fault_list.proofs.TextLaws.{field-short}
 use Rattle.fault_list.specs.Text.{lineFeed, space}
 use Rattle.report_text.specs.Lines.{lineLength, markLine, refusedLine, totalLine}

@@ -15,7 +15,7 @@ use Rattle.netlist.proofs.RefusalLaws.{FirstFails, fails-here, fails-later, ref
 use Rattle.netlist.proofs.SoundLaws.{Facts, answered-sound, facts, refused-first, sound-size}
 use Rattle.netlist.specs.Answer.{Answer, Test, answered, refused}
 use Rattle.circuit.specs.Fault.{faultExists, siteByte}
-use Rattle.netlist.specs.Netlist.{Net, netOf, nodeCount, pinCount, readerTests, reading, sound}
+use Rattle.netlist.specs.Netlist.{Net, netOf, nodeCount, pinCount, readerTests, reading, sound, mostNodes, mostPinsInAll}
 use Rattle.circuit.specs.declared.fault.Fault.{Fault}
 use Rattle.circuit.specs.declared.fault.Site.{Site}
 use Rattle.circuit.specs.declared.fault.Site.the-variants.{Pin, Whole}
@@ -24,10 +24,11 @@ use Rattle.search.proofs.FirstLaws.{split-some}
 use Rattle.search.proofs.ClosingLaws.{site-few}
 use Rattle.search.specs.FinderCall.{FinderCall, finderCall}
 use Rattle.finder.specs.Finder.{FinderOutcome, answerFor, bytesFor, finding, searched, turnedBack}
-use Rattle.sweeps.specs.Splits.{certificateFor, split}
+use Rattle.sweeps.specs.Splits.{certificateFor}
+use Rattle.splits.specs.Split.{split}
 use Rattle.search.specs.FirstSplit.{firstSplit}
 use Rattle.certificate.specs.Written.{written, certificateOf, headBytes}
-use Rattle.sweeps.specs.declared.split.Split.{Split}
+use Rattle.splits.specs.declared.split.Split.{Split}
 use Rattle.fault_list.proofs.FaultListLaws.{exists-node, exists-stuck, fault-count, first-exists, first-rest}
 use Rattle.fault_list.proofs.TextLaws.{line-read}
 use Rattle.report_text.proofs.ReportTestLaws.{cut-same, report-read, report-short, report-windowed}
@@ -41,8 +42,6 @@ use Rattle.report_text.specs.declared.progress.Progress.{Progress}
 use Rattle.report_text.specs.declared.progress.Stage.{Stage}
 use Rattle.report_text.specs.declared.progress.Stage.the-variants.{Counted, Looking, Over}
 use Rattle.knowledge.specs.Window.{mostFrames}
-use Rattle.netlist.specs.Netlist.{mostNodes}
-use Rattle.netlist.specs.Netlist.{mostPinsInAll}
 use Rattle.certificate.specs.Certificate.{headLength}
 
 -- the tests' numbers are at most b, and so is that of the one that fails

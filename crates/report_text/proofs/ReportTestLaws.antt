@@ -15,12 +15,10 @@ use Rattle.netlist.proofs.NetlistLaws.{read-refused}
 use Rattle.netlist.proofs.RefusalLaws.{fails-here, fails-later}
 use Rattle.netlist.specs.Answer.{Answer, answered, refusal, refused}
 use Rattle.values.specs.Lists.{at}
-use Rattle.netlist.specs.Netlist.{netOf, nodeCount, pinCount, reading, sizesAllowed}
+use Rattle.netlist.specs.Netlist.{netOf, nodeCount, pinCount, reading, sizesAllowed, mostNodes, mostPinsInAll}
 use Rattle.certificate.specs.Certificate.{headLength}
 use Rattle.report_text.specs.Lines.{refusedLine}
 use Rattle.report_text.specs.Report.{bufferLength, givenB, givenF, netlistIn, report, reportLines, reportOn, windowTests}
-use Rattle.netlist.specs.Netlist.{mostNodes}
-use Rattle.netlist.specs.Netlist.{mostPinsInAll}
 
 module _ (input : List ℕ) where
   abbrev windowed : Option ℕ → List ℕ

@@ -3,15 +3,14 @@ use mathlib.Core.List.{List, [], _++_, _∷_}
 use mathlib.Core.Path.{_≡_, refl}
 use Prim.Native.Nat.{_+_, suc, zero, ℕ}
 use Rattle.netlist.proofs.Vectors.{p3, p6}
-use Rattle.circuit.specs.Clock.{pinValues}
+use Rattle.simulator.specs.Clock.{pinValues}
 use Rattle.circuit.specs.Fault.{linesOf}
-use Rattle.values.specs.Kind.{gate, ruleOf}
+use Rattle.gates.specs.Kind.{gate, ruleOf}
 use Rattle.values.specs.Lists.{any, build, every}
 use Rattle.netlist.specs.Netlist.{countFits, kindKnown, netOf, pairJoined, pairStart, pinsOf, reading, sizesAllowed, sourceAllowed, sourceOf, sourcesAllowed}
 use Rattle.checker.specs.Checker.{closes}
 use Rattle.trace.specs.Trace.{effectDies, gateMark, latchedMark, latchedMarks, marksList, nodeMark, pinMark}
-use Rattle.knowledge.specs.Window.{begin, conclusion, enter, inForce, known, outputConclusion, pinConclusion}
-use Rattle.knowledge.specs.Window.{held}
+use Rattle.knowledge.specs.Window.{begin, conclusion, enter, inForce, known, outputConclusion, pinConclusion, held}
 use Rattle.sweeps.specs.Splits.{branchOf, splitCloses}
 use Rattle.search.specs.FirstSplit.{firstSome, tryFrames, tryNodes, trySplit, tryWindows}
 use Rattle.sweeps.specs.Sweeps.{rising, saysNothing, sweep, sweepFrame, sweeps, tryLine, useRelation, implied}

@@ -3,7 +3,7 @@ use mathlib.Core.List.{List, [], _++_, _∷_}
 use Prim.Native.Nat.{ℕ}
 use Rattle.circuit.specs.Fault.{siteByte}
 use Rattle.circuit.specs.declared.fault.Fault.{Fault}
-use Rattle.sweeps.specs.declared.split.Split.{Split}
+use Rattle.splits.specs.declared.split.Split.{Split}
 use Rattle.fault_list.specs.Text.{field, lineFeed, space}
 
 -- node, site, u, c, split node, split frame

@@ -11,7 +11,7 @@ use Rattle.netlist.specs.Netlist.{Net, netOf, reading}
 use Rattle.circuit.specs.declared.fault.Fault.{Fault}
 use Rattle.certificate.specs.Certificate.{headLength}
 use Rattle.search.specs.FirstSplit.{firstSplit}
-use Rattle.sweeps.specs.declared.split.Split.{Split}
+use Rattle.splits.specs.declared.split.Split.{Split}
 use Rattle.fault_list.specs.Faults.{faults}
 use Rattle.report_text.specs.Lines.{markLine, refusedLine, totalLine}
 use Rattle.knowledge.specs.Window.{mostFrames}

@@ -13,7 +13,7 @@ use Rattle.circuit.specs.declared.fault.Fault.{Fault}
 use Rattle.certificate.specs.Certificate.{splitFrame, splitNode}
 use Rattle.search.specs.FinderCall.{finderCall}
 use Rattle.finder.specs.Finder.{finding}
-use Rattle.sweeps.specs.Splits.{split}
+use Rattle.splits.specs.Split.{split}
 use Rattle.fault_list.specs.Faults.{faultAfter, firstFault, restAfter}
 use Rattle.report_text.specs.Lines.{lineLength, markLine, refusedLine, totalLine}
 use Rattle.report_text.specs.Report.{bufferLength, givenB, givenF, netlistIn, report}

@@ -3,7 +3,7 @@ ghost use mathlib.Core.Path.{_≡_};
 ghost use Prim.Native.Nat.{_≤_};
 ghost use lib.ListN.{length};
 ghost use lib.Seq.{sets};
-ghost use Rattle.sweeps.specs.Splits.{split};
+ghost use Rattle.splits.specs.Split.{split};
 ghost use Rattle.certificate.specs.Certificate.{splitFrame, splitNode};
 ghost use Rattle.report_text.specs.Lines.{lineLength, markLine, refusedLine, totalLine};
 use circuit::Fault;

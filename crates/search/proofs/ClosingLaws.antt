@@ -9,9 +9,9 @@ use lib.ListN.{length, length-replicate, replicate}
 use borrow.Author.Tests.{le-leb, leb-true, lt-ltb, ltb-true}
 use Rattle.values.proofs.BoolLaws.{and-left, and-right}
 use Rattle.values.proofs.ListLaws.{every-at}
-use Rattle.values.specs.Kind.{ruleOf}
+use Rattle.gates.specs.Kind.{ruleOf, mostPins, lastKind}
 use Rattle.values.specs.Lists.{every}
-use Rattle.circuit.proofs.ClockLaws.{sound-ordered}
+use Rattle.simulator.proofs.ClockLaws.{sound-ordered}
 use Rattle.netlist.proofs.NetlistLaws.{pins-length}
 use Rattle.netlist.proofs.RefusalLaws.{Passed}
 use Rattle.netlist.proofs.SoundLaws.{facts}
@@ -24,18 +24,14 @@ use Rattle.checker.proofs.Theorem.{accepted-redundant}
 use Rattle.checker.proofs.VerdictLaws.{Closes, replayed-allowed, says-accepted}
 use Rattle.certificate.specs.Certificate.{cOf, fOf, faultOf, headLength, pairsRight, runLength, splitFrame, splitNode, stepsOf}
 use Rattle.checker.specs.Checker.{accepted, checkerCall, checkerTests, checking, closes, replay, replayed}
-use Rattle.circuit.specs.Statement.{Redundant}
-use Rattle.knowledge.specs.Window.{Branch, begin, presentBelow}
+use Rattle.simulator.specs.Statement.{Redundant}
+use Rattle.knowledge.specs.Window.{Branch, begin, presentBelow, mostFrames}
 use Rattle.sweeps.proofs.CountingLaws.{implied-few}
 use Rattle.sweeps.proofs.ReplayedLaws.{implied-replays}
-use Rattle.certificate.proofs.WrittenLaws.{c-read, f-read, fault-read, frame-read, node-read, pairs-read, sevenths, steps-one-read, steps-zero-read}
-use Rattle.certificate.proofs.WrittenLaws.{length-certificate, length-one-read, length-zero-read}
+use Rattle.certificate.proofs.WrittenLaws.{c-read, f-read, fault-read, frame-read, node-read, pairs-read, sevenths, steps-one-read, steps-zero-read, length-certificate, length-one-read, length-zero-read}
 use Rattle.search.specs.FirstSplit.{Within}
 use Rattle.sweeps.specs.Splits.{branchOf, certificateFor, headFor, splitCloses, stepCount}
-use Rattle.sweeps.specs.declared.split.Split.{Split}
-use Rattle.knowledge.specs.Window.{mostFrames}
-use Rattle.values.specs.Kind.{mostPins}
-use Rattle.values.specs.Kind.{lastKind}
+use Rattle.splits.specs.declared.split.Split.{Split}
 
 -- no kind has more than 8 pins
 rule-few : (k : ℕ) → k ≤ lastKind → ruleOf k .most ≤ mostPins

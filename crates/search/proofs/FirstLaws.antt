@@ -10,8 +10,9 @@ use native.Mathlib.Omega.{arith}
 use Rattle.netlist.specs.Netlist.{Net}
 use Rattle.circuit.specs.declared.fault.Fault.{Fault}
 use Rattle.search.specs.FirstSplit.{firstSome, firstSplit, tryFrames, tryNodes, trySplit, tryWindows, Earlier, IsFirst, Within}
-use Rattle.sweeps.specs.Splits.{split, splitCloses}
-use Rattle.sweeps.specs.declared.split.Split.{Split}
+use Rattle.splits.specs.Split.{split}
+use Rattle.sweeps.specs.Splits.{splitCloses}
+use Rattle.splits.specs.declared.split.Split.{Split}
 
 module _ {A : Type 0} (f : ℕ → Option A) where
   -- where none is found, none is there

@@ -1,4 +1,4 @@
--- Laws over the definitions of specs/, and the proofs of the functions.
+-- Laws of the definitions, which the proofs of this crate and of the crates above cite.
 pub mod FirstLaws
 pub mod ClosingLaws
 pub mod NotesLaws

@@ -4,20 +4,23 @@ use mathlib.Core.Logic.{_⊎_, inl, inr}
 use mathlib.Core.Path.{_∙_, _≡_, ap, refl, subst, sym}
 use native.Mathlib.Omega.{arith}
 use Rattle.circuit.specs.declared.fault.Fault.{Fault}
-use Rattle.sweeps.specs.Splits.{split, splitCloses}
+use Rattle.splits.specs.Split.{split}
+use Rattle.sweeps.specs.Splits.{splitCloses}
 use Rattle.sweeps.specs.Inner.Work.{KeptOpen}
-use Rattle.search.specs.Inner.Notes.{Noted, NotedStayOpen, noteAt}
+use Rattle.search.specs.Inner.Notes.{Noted, NotedStayOpen}
+use Rattle.splits.specs.Inner.NoteBytes.{noteAt, noteOver, notedWith, withNote}
 use Rattle.values.proofs.ListLaws.{set-either}
 use mathlib.Core.Bool.{Bool, cond, false, true}
 use Prim.Native.Nat.{_*_, _+_, _/_, _<_, suc, zero, ℕ}
 use lib.Dec.{ltb}
 use lib.ListN.{length}
 use borrow.Author.Tests.{ltb-true}
-use Rattle.circuit.proofs.ClockLaws.{Ordered}
+use Rattle.simulator.proofs.ClockLaws.{Ordered}
 use Rattle.netlist.specs.Netlist.{Net, netOf}
-use Rattle.values.specs.Lists.{at, rewritten}
+use Rattle.values.specs.Lists.{at}
+use Rattle.values.specs.Inner.Rewriting.{rewritten}
 use Rattle.sweeps.proofs.KeptLaws.{open-set-kept}
-use Rattle.sweeps.specs.Inner.Trials.{Tried, noteOver, notedWith, notingOpen, opening, withNote}
+use Rattle.sweeps.specs.Inner.Trials.{Tried, notingOpen, opening}
 use Rattle.knowledge.specs.Window.{mostFrames}
 
 note-read : (old x : ℕ) → withNote old x / 4 ≡ x

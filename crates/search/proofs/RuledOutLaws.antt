@@ -8,13 +8,14 @@ use native.Mathlib.Omega.{arith}
 use Rattle.circuit.specs.Fault.{faultExists, linesOf}
 use Rattle.netlist.specs.Netlist.{netOf, nodeCount, pinCount, reading, sound}
 use Rattle.circuit.specs.declared.fault.Fault.{Fault}
-use Rattle.circuit.proofs.RedundantLaws.{redundant-later}
-use Rattle.circuit.specs.Statement.{Redundant}
+use Rattle.simulator.proofs.RedundantLaws.{redundant-later}
+use Rattle.simulator.specs.Statement.{Redundant}
 use Rattle.search.proofs.FirstLaws.{windows-none-by}
 use Rattle.search.proofs.ClosingLaws.{mark-redundant}
 use Rattle.search.specs.FirstSplit.{tryWindows, Within}
-use Rattle.sweeps.specs.Splits.{split, splitCloses}
-use Rattle.sweeps.specs.declared.split.Split.{Split}
+use Rattle.splits.specs.Split.{split}
+use Rattle.sweeps.specs.Splits.{splitCloses}
+use Rattle.splits.specs.declared.split.Split.{Split}
 use Rattle.knowledge.specs.Window.{mostFrames}
 
 module _ (nb : List ℕ) (f : Fault) (B F : ℕ) (sound-nb : reading nb ≡ sound (nodeCount nb) (pinCount nb))

@@ -14,7 +14,7 @@ use Rattle.search.specs.FinderCall.{FinderCall, finderTests, windowSize}
 use Rattle.search.specs.FirstSplit.{IsFirst, firstSplit}
 use Rattle.search.specs.Inner.Search.{SearchOutcome, atSplit, searchMade, searchOutcome, searching, unsearched}
 use Rattle.search.specs.declared.answer.Searched.{Searched}
-use Rattle.sweeps.specs.declared.split.Split.{Split}
+use Rattle.splits.specs.declared.split.Split.{Split}
 
 -- a split that is answered: the netlist is sound, all tests pass, it is the first that closes, and the first work slice is cleared
 pub record SplitFound (a : FinderCall) (s : Split) (v : List ℕ) : Type 0 where

@@ -9,8 +9,10 @@ use native.Mathlib.Omega.{arith}
 use Rattle.netlist.specs.Netlist.{Net}
 use Rattle.circuit.specs.declared.fault.Fault.{Fault}
 use Rattle.search.specs.FirstSplit.{firstSome, firstSplit, tryFrames, tryNodes, trySplit, tryWindows}
-use Rattle.sweeps.specs.Splits.{nextSplit, split, splitCloses}
-use Rattle.sweeps.specs.declared.split.Split.{Split}
+use Rattle.splits.specs.Inner.Next.{nextSplit}
+use Rattle.splits.specs.Split.{split}
+use Rattle.sweeps.specs.Splits.{splitCloses}
+use Rattle.splits.specs.declared.split.Split.{Split}
 use borrow.Author.Tests.{le-ltb, lt-leb, lt-ltb}
 use Rattle.knowledge.specs.Window.{mostFrames}
 
@@ -30,11 +32,11 @@ module _ {A : Type 0} (f : ℕ → Option A) where
       go (yes p) r = let z : i ≡ suc n = omega arith in subst (λ (m : ℕ). firstSome f m ≡ some a) z e
       go (no p) r = rw (r (omega arith))
 
--- It falls from each split to the next, up to the last window: no window has more than 16 frames, no circuit more than 65536 nodes.
+-- It falls from each split to the next, up to the last window: no window has more than `mostFrames` frames, and node numbers are below 65,536.
 abbrev pub left : ℕ → Split → ℕ
 left B s = (B + 1 - s .c) * 1048576 + (mostFrames - s .frame) * 65536 + (65535 - s .node)
 
-pub left-less : (N F B : ℕ) (s : Split) → N ≤ 65535 → B + F ≤ 14 → s .c ≤ B → s .frame ≤ s .c + F → s .node < N → left B (nextSplit N F s) < left B s
+pub left-less : (N F B : ℕ) (s : Split) → N ≤ 65535 → B + F + 1 ≤ mostFrames → s .c ≤ B → s .frame ≤ s .c + F → s .node < N → left B (nextSplit N F s) < left B s
 unfolding nextSplit
 left-less N F B s a b h l m = rw (lt-leb 255 (s .c + F) (omega arith)) (elim (decLt (s .node + 1) N) [
   | yes d ↦ rw (lt-ltb (s .node + 1) N d) (omega arith)

@@ -6,8 +6,9 @@ use mathlib.Core.Path.{_≡_}
 use Prim.Native.Nat.{_+_, _<_, _≤_, suc, zero, ℕ}
 use Rattle.netlist.specs.Netlist.{Net}
 use Rattle.circuit.specs.declared.fault.Fault.{Fault}
-use Rattle.sweeps.specs.Splits.{split, splitCloses}
-use Rattle.sweeps.specs.declared.split.Split.{Split}
+use Rattle.splits.specs.Split.{split}
+use Rattle.sweeps.specs.Splits.{splitCloses}
+use Rattle.splits.specs.declared.split.Split.{Split}
 
 -- the first of f 0, f 1, .., f (n - 1) that is there
 module _ {A : Type 0} where

@@ -17,7 +17,7 @@ use certificate::STEP_LENGTH;
 use circuit::Fault;
 use knowledge::MOST_FRAMES;
 use netlist::Reading;
-use sweeps::Split;
+use splits::Split;
 
 // The first split that closes, or none, or the refusal's number.
 pub enum Searched {
@@ -45,10 +45,10 @@ fn search_window(
     let split = split_in_window(netlist, n, fault, b, f, known, marks);
     values::fill(known, 0);
     values::fill(marks, 0);
-    if split.c > b {
-        return Searched::None;
+    if split.is_within(b) {
+        return Searched::At(split);
     }
-    Searched::At(split)
+    Searched::None
 }
 
 // The refusal's number where a slice is too short for a window of this size: 11 for a work slice, 12

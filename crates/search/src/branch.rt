@@ -3,15 +3,15 @@ ghost use mathlib.Core.Path.{_≡_};
 ghost use mathlib.Core.Bool.{true};
 ghost use Prim.Native.Nat.{_*_, _+_, _<_, _≤_};
 ghost use lib.ListN.{length};
+ghost use Rattle.circuit.specs.Fault.{faultExists};
 ghost use Rattle.netlist.specs.Netlist.{netOf, pinCount, reading, sound};
+ghost use Rattle.knowledge.specs.Window.{mostFrames};
 ghost use Rattle.sweeps.specs.Splits.{splitCloses};
 ghost use Rattle.search.specs.Inner.Notes.{NotedStayOpen};
 use crate::notes::note_proposed;
 use circuit::Fault;
-ghost use Rattle.circuit.specs.Fault.{faultExists};
-ghost use Rattle.knowledge.specs.Window.{mostFrames};
-use sweeps::NOTE_UNIT;
-use sweeps::Split;
+use splits::NOTE_UNIT;
+use splits::Split;
 
 // Whether both branches of a split close, in slices of the window's size. First an open set is looked
 // for that has one of its values; where one is found, nothing is worked out. Where a branch stays open, so
@@ -45,7 +45,7 @@ fn decide(
     if sweeps::both_close(netlist, fault, f, split, known, marks) {
         return true;
     }
-    sweeps::note_known(known, c, noted);
+    splits::note_known(known, c, noted);
     false
 }
 

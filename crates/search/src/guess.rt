@@ -8,7 +8,8 @@ ghost use Rattle.knowledge.specs.Window.{mostFrames};
 use crate::quick;
 use crate::quick::Window;
 use circuit::Fault;
-use values::UNKNOWN;
+use gates::UNKNOWN;
+use splits::NOTE_UNIT;
 use values::copy;
 use values::fill;
 
@@ -18,7 +19,7 @@ fn keep_small(values: &mut [u8])
 {
     let mut place: usize = 0;
     while place < values.len() {
-        values[place] = values[place] % 4;
+        values[place] = values[place] % NOTE_UNIT;
         place += 1;
     }
 }

@@ -2,7 +2,7 @@
 // guessed value, 0, 1 or unknown.
 ghost use mathlib.Core.Path.{_≡_};
 ghost use mathlib.Core.Bool.{true};
-ghost use Prim.Native.Nat.{_*_, _+_, _<_, _≤_};
+ghost use Prim.Native.Nat.{_*_, _+_, _≤_};
 ghost use lib.ListN.{length};
 ghost use Rattle.circuit.specs.Fault.{faultExists};
 ghost use Rattle.netlist.specs.Netlist.{netOf, pinCount, reading, sound};
@@ -11,9 +11,9 @@ ghost use Rattle.knowledge.specs.Window.{mostFrames};
 use crate::quick;
 use crate::quick::Window;
 use circuit::Fault;
-use sweeps::NOTE_UNIT;
-use sweeps::Split;
-use values::UNKNOWN;
+use gates::UNKNOWN;
+use splits::NOTE_UNIT;
+use splits::Split;
 
 // Whether one of the first values is guessed.
 fn some_guess(noted: &[u8], size: usize) -> bool {

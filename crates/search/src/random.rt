@@ -3,7 +3,7 @@
 ghost use Prim.Native.Nat.{ℕ, _<_};
 ghost use lib.ListN.{length};
 ghost use Rattle.values.specs.Lists.{at};
-use values::INPUT;
+use gates::INPUT;
 
 // The word from which the runs begin.
 pub(crate) const FIRST_WORD: u64 = 88172645463325252;

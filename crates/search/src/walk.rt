@@ -8,7 +8,8 @@ ghost use lib.ListN.{length};
 ghost use Rattle.circuit.specs.Fault.{faultExists};
 ghost use Rattle.netlist.specs.Netlist.{netOf, pinCount, reading, sound};
 ghost use Rattle.search.specs.FirstSplit.{firstSplit, tryWindows};
-ghost use Rattle.sweeps.specs.Splits.{split, splitCloses};
+ghost use Rattle.splits.specs.Split.{split};
+ghost use Rattle.sweeps.specs.Splits.{splitCloses};
 ghost use Rattle.search.specs.Inner.Notes.{NotedStayOpen};
 ghost use Rattle.knowledge.specs.Window.{mostFrames};
 use crate::branch::closes;
@@ -22,7 +23,7 @@ use crate::trial::NODES_AT_MOST;
 use crate::trial::rules_out;
 use circuit::Fault;
 use knowledge::MOST_FRAMES;
-use sweeps::Split;
+use splits::Split;
 
 // Room for the guess and for notes of splits that stay open: a byte for each place of the longest window
 // of the greatest circuit.
@@ -76,11 +77,7 @@ fn walk_splits(
     ensures { λ r. ⌜ cond (leb (r .c) b) (some r) none ≡ firstSplit (netOf (now (netlist .entry))) fault b f ⌝ }
     ensures { λ r. ⌜ (r .frame ≤ r .c + f) × (r .node < n) ⌝ }
 {
-    let mut split = Split {
-        c: from,
-        frame: 0,
-        node: 0,
-    };
+    let mut split = splits::first_of(from);
     while split.c <= b {
         note_window(netlist, n, fault, b, f, split, known, marks, noted);
         if closes(netlist, n, fault, f, split, known, marks, noted, fan, trail) {
@@ -191,11 +188,7 @@ fn window_open(
     ensures { λ _. ⌜ NotedStayOpen (netOf (now (netlist .entry))) fault f (now (noted .exit)) ⌝ }
 {
     if asks_first(b, noted, known.len()) {
-        let first = Split {
-            c: b,
-            frame: 0,
-            node: 0,
-        };
+        let first = splits::first_of(b);
         note_window(netlist, n, fault, b, f, first, known, marks, noted);
         return frames_open(netlist, n, fault, b, f, known, marks, noted, fan, trail);
     }
@@ -227,11 +220,7 @@ fn search_windows(
     ensures { λ r. ⌜ (r .frame ≤ r .c + f) × (r .node < n) ⌝ }
 {
     if window_open(netlist, n, fault, b, f, known, marks, noted, fan, trail) {
-        return Split {
-            c: b + 1,
-            frame: 0,
-            node: 0,
-        };
+        return splits::first_of(b + 1);
     }
     walk_splits(netlist, n, fault, c, b, f, known, marks, noted, fan, trail)
 }
@@ -295,11 +284,7 @@ pub(crate) fn split_in_window(
 {
     let first = first_window(netlist, n, fault, b, f, known, marks);
     if first > b {
-        return Split {
-            c: first,
-            frame: 0,
-            node: 0,
-        };
+        return splits::first_of(first);
     }
     search_from(netlist, n, fault, first, b, f, known, marks)
 }

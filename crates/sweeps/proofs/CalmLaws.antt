@@ -9,12 +9,12 @@ use lib.Dec.{eqb}
 use lib.ListN.{length, replicate, set}
 use lib.Seq.{getD-set-other}
 use borrow.Author.Tests.{eqb-true}
-use Rattle.circuit.proofs.ClockLaws.{Ordered}
+use Rattle.simulator.proofs.ClockLaws.{Ordered}
 use Rattle.circuit.specs.Fault.{StuckLines}
 use Rattle.netlist.specs.Netlist.{Net}
 use Rattle.values.proofs.ListLaws.{below-at, replicate-at, set-either}
 use Rattle.values.specs.Lists.{at}
-use Rattle.values.specs.Value.{isUnknown}
+use Rattle.gates.specs.Value.{isUnknown}
 use Rattle.knowledge.proofs.Agreement.{SameNodes, pinFrame-either}
 use Rattle.knowledge.proofs.HoldLaws.{place-frame}
 use Rattle.knowledge.specs.Window.{conclusion, inForce}
@@ -141,3 +141,14 @@ module _ (net : Net) (o : Ordered net) (S : ℕ → StuckLines) where
             let b = uncleared (set calm (pred t) 0) t u (a .0) in
             let c = uncleared calm (pred t) u (b .0) in
             calm-stays u (b .1) (c .1) (a .1) (k u (c .0))
+
+-- The same where calm frames are noted of ordered circuits only: of others there is no room for them.
+pub calm-noted-where : (net : Net) (S : ℕ → StuckLines) (t : ℕ) (w : Work) (calm : List ℕ) → (0 < length calm → Ordered net) → CalmFrames net S calm w
+    → CalmFrames net S (frameNoted calm t (eqb (sweepFrame (inBytes (net .size)) net S t w .steps) (w .steps))) (sweepFrame (inBytes (net .size)) net S t w)
+unfolding CalmFrames frameNoted
+calm-noted-where net S t w [] o k u = go (eqb (sweepFrame (inBytes (net .size)) net S t w .steps) (w .steps))
+  where
+    go : (b : Bool) → 0 < at (frameNoted [] t b) u → sweepFrame (inBytes (net .size)) net S u (sweepFrame (inBytes (net .size)) net S t w) ≡ sweepFrame (inBytes (net .size)) net S t w
+    go true h = absurd (omega arith)
+    go false h = absurd (omega arith)
+calm-noted-where net S t w (x ∷ xs) o k u = calm-noted net (o (omega arith)) S t w (x ∷ xs) k u

@@ -9,12 +9,12 @@ use native.Mathlib.Omega.{arith}
 use lib.Dec.{eqb}
 use lib.ListN.{getD, length, length-append, length-replicate, length-set, replicate, set}
 use borrow.Author.Tests.{eqb-false, eqb-true}
-use Rattle.circuit.proofs.ClockLaws.{Ordered}
+use Rattle.simulator.proofs.ClockLaws.{Ordered}
 use Rattle.values.proofs.ListLaws.{replicate-at}
-use Rattle.values.proofs.ValueLaws.{known-low}
+use Rattle.gates.proofs.ValueLaws.{known-low}
 use Rattle.circuit.specs.Fault.{StuckLines}
 use Rattle.netlist.specs.Netlist.{Net}
-use Rattle.values.specs.Value.{isUnknown, stuckOr}
+use Rattle.gates.specs.Value.{isUnknown, stuckOr}
 use Rattle.knowledge.proofs.HoldLaws.{place-within}
 use Rattle.knowledge.proofs.WindowLaws.{begin-cases, enter-cases}
 use Rattle.trace.specs.Trace.{mark}

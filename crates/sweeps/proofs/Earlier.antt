@@ -7,16 +7,16 @@ use Prim.Native.Nat.{_*_, _+_, _<_, pred, suc, zero, ℕ}
 use native.Mathlib.Omega.{arith}
 use lib.ListN.{getD, length, length-replicate, replicate, set}
 use lib.Seq.{getD-set-same}
-use Rattle.circuit.proofs.ClockLaws.{Ordered}
+use Rattle.simulator.proofs.ClockLaws.{Ordered}
 use Rattle.circuit.specs.Fault.{StuckLines, linesOf, noneStuck}
 use Rattle.netlist.specs.Netlist.{Net}
 use Rattle.circuit.specs.declared.fault.Fault.{Fault}
-use Rattle.values.proofs.GateLaws.{Refines}
+use Rattle.gates.proofs.GateLaws.{Refines}
 use Rattle.values.proofs.ListLaws.{set-either}
-use Rattle.values.proofs.ValueLaws.{known-low}
-use Rattle.values.specs.Kind.{isFlipFlop, isInput}
+use Rattle.gates.proofs.ValueLaws.{known-low}
+use Rattle.gates.specs.Kind.{isFlipFlop, isInput}
 use Rattle.values.specs.Lists.{at, every}
-use Rattle.values.specs.Value.{differ, isUnknown, stuckOr}
+use Rattle.gates.specs.Value.{differ, isUnknown, stuckOr}
 use Rattle.knowledge.proofs.HoldLaws.{place-frame, place-node, place-within}
 use Rattle.knowledge.proofs.Monotone.{Shut}
 use Rattle.checker.proofs.VerdictLaws.{Allowed, next-step, no-step}
@@ -27,7 +27,8 @@ use Rattle.trace.specs.Trace.{effectDies, latchedMarks, marksList, outputUntouc
 use Rattle.knowledge.specs.Window.{Branch, begin, conclusion, enter, hasRelation, inForce, known, outputConclusion, pinConclusion, pinFrame, presentBelow, held}
 use Rattle.sweeps.proofs.ReplayedLaws.{implied-allowed}
 use Rattle.sweeps.proofs.OpenSets.{open-says, open-set, open-shut, side-open}
-use Rattle.sweeps.specs.Splits.{branchOf, split, splitCloses}
+use Rattle.sweeps.specs.Splits.{branchOf, splitCloses}
+use Rattle.splits.specs.Split.{split}
 use Rattle.sweeps.specs.Sweeps.{implied}
 
 both : (a b : Bool) → (a && b) ≡ true → (a ≡ true) × (b ≡ true)

@@ -7,11 +7,11 @@ use mathlib.Core.Path.{_∙_, _≡_, ap, refl, subst, sym}
 use Prim.Native.Nat.{_*_, _+_, _<_, _≤_, ℕ}
 use native.Mathlib.Decide.{decLt, ℕ-discrete}
 use native.Mathlib.Omega.{arith}
-use Rattle.circuit.proofs.ClockLaws.{Ordered}
+use Rattle.simulator.proofs.ClockLaws.{Ordered}
 use Rattle.circuit.specs.Fault.{StuckLines, linesOf}
 use Rattle.netlist.specs.Netlist.{Net}
 use Rattle.circuit.specs.declared.fault.Fault.{Fault}
-use Rattle.values.proofs.GateLaws.{Refines}
+use Rattle.gates.proofs.GateLaws.{Refines}
 use Rattle.values.specs.Lists.{at}
 use Rattle.knowledge.proofs.HoldLaws.{none-held}
 use Rattle.knowledge.proofs.Monotone.{Shut}
@@ -21,7 +21,8 @@ use Rattle.knowledge.specs.Window.{conclusion, presentBelow, held}
 use Rattle.knowledge.specs.Inner.Slice.{knownIn}
 use Rattle.sweeps.proofs.OpenSets.{open-set, side-open}
 use Rattle.sweeps.proofs.StillLaws.{Silent, bytes-count, nothing-new, still-silent, sweep-moves, sweep-still}
-use Rattle.sweeps.specs.Splits.{branchOf, split}
+use Rattle.sweeps.specs.Splits.{branchOf}
+use Rattle.splits.specs.Split.{split}
 use Rattle.sweeps.specs.Sweeps.{sweep}
 use Rattle.sweeps.specs.Inner.Work.{HasHeld, KeptOpen, Work, inBytes, work}
 

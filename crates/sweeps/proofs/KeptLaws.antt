@@ -9,7 +9,7 @@ use native.Mathlib.Omega.{arith}
 use lib.Dec.{eqb}
 use lib.ListN.{length, replicate}
 use borrow.Author.Tests.{eq-eqb, eqb-true, le-leb, lt-ltb, not-true}
-use Rattle.circuit.proofs.ClockLaws.{Ordered, sound-ordered}
+use Rattle.simulator.proofs.ClockLaws.{Ordered, sound-ordered}
 use Rattle.netlist.specs.Answer.{Answer, numberOf}
 use Rattle.circuit.specs.Fault.{StuckLines, faultExists, linesOf}
 use Rattle.netlist.specs.Netlist.{Net, netOf, reading, sound}
@@ -19,7 +19,7 @@ use Rattle.certificate.specs.Certificate.{headLength}
 use Rattle.checker.specs.Checker.{closes}
 use Rattle.trace.specs.Inner.Tracing.{Traced, tracing}
 use Rattle.knowledge.specs.Inner.Slice.{knownIn}
-use Rattle.knowledge.specs.Window.{presentBelow}
+use Rattle.knowledge.specs.Window.{presentBelow, mostFrames}
 use Rattle.sweeps.proofs.CountingLaws.{implied-few}
 use Rattle.sweeps.proofs.GuessLaws.{guess-open}
 use Rattle.sweeps.proofs.OpenSets.{open-marks-in}
@@ -28,8 +28,7 @@ use Rattle.sweeps.specs.Inner.Trials.{Certified, Tried, certified, certi
 use Rattle.sweeps.specs.Inner.Work.{KeptOpen, Work}
 use Rattle.sweeps.specs.Splits.{branchOf, certificateFor, splitCloses, stepCount}
 use Rattle.certificate.specs.Written.{written}
-use Rattle.sweeps.specs.declared.split.Split.{Split}
-use Rattle.knowledge.specs.Window.{mostFrames}
+use Rattle.splits.specs.declared.split.Split.{Split}
 
 -- THE law of sets that are said to be open
 module _ (bs : List ℕ) (o : Ordered (netOf bs)) (f : Fault) (c F : ℕ) (values marks : List ℕ) where

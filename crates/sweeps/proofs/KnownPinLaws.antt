@@ -10,15 +10,15 @@ use lib.Dec.{eqb}
 use lib.ListN.{getD, length, set}
 use lib.Seq.{set-getD}
 use borrow.Author.Tests.{eqb-true}
-use Rattle.values.proofs.GateLaws.{controlling-low}
+use Rattle.gates.proofs.GateLaws.{controlling-low}
 use Rattle.values.proofs.ListLaws.{indexed-at}
-use Rattle.values.proofs.ValueLaws.{differ-same, differ-unknown-first, stuck-free, unknown-is}
-use Rattle.circuit.specs.Clock.{pinValues}
+use Rattle.gates.proofs.ValueLaws.{differ-same, differ-unknown-first, stuck-free, unknown-is}
+use Rattle.simulator.specs.Clock.{pinValues}
 use Rattle.circuit.specs.Fault.{StuckLines}
-use Rattle.values.specs.Kind.{controlling, gate, ruleOf}
+use Rattle.gates.specs.Kind.{controlling, gate, ruleOf}
 use Rattle.values.specs.Lists.{at}
 use Rattle.netlist.specs.Netlist.{Net}
-use Rattle.values.specs.Value.{differ, isUnknown, neg, stuckOr}
+use Rattle.gates.specs.Value.{differ, isUnknown, neg, stuckOr}
 use Rattle.knowledge.specs.Window.{conclusion, outputConclusion, pinConclusion, pinFrame}
 use Rattle.sweeps.proofs.StillLaws.{bytes-count, line-is, line-moves, line-unmoved, tried}
 use Rattle.sweeps.proofs.WorkLaws.{line-closed, line-old, line-silent, made}

@@ -6,11 +6,11 @@ use mathlib.Core.Logic.{_⊎_, inl, inr}
 use mathlib.Core.Path.{_∙_, _≡_, ap, refl, sym}
 use Prim.Native.Nat.{_*_, _+_, _<_, suc, zero, ℕ}
 use native.Mathlib.Omega.{arith}
-use Rattle.circuit.proofs.ClockLaws.{Ordered}
+use Rattle.simulator.proofs.ClockLaws.{Ordered}
 use Rattle.circuit.specs.Fault.{StuckLines, linesOf}
 use Rattle.netlist.specs.Netlist.{Net}
 use Rattle.circuit.specs.declared.fault.Fault.{Fault}
-use Rattle.values.proofs.GateLaws.{stuck-refines}
+use Rattle.gates.proofs.GateLaws.{stuck-refines}
 use Rattle.values.specs.Lists.{at}
 use Rattle.knowledge.proofs.Monotone.{Shut}
 use Rattle.trace.proofs.TraceMonotone.{dies-mono}
@@ -23,10 +23,11 @@ use Rattle.sweeps.proofs.CountingLaws.{Ended, implied-ends}
 use Rattle.sweeps.proofs.ReplayedLaws.{implied-allowed}
 use Rattle.sweeps.proofs.StandsLaws.{closes-closed, closes-traced}
 use Rattle.sweeps.proofs.StillLaws.{Silent, branches-count, nothing-new, still-silent, sweep-still}
-use Rattle.sweeps.specs.Splits.{branchOf, split, splitCloses}
+use Rattle.sweeps.specs.Splits.{branchOf, splitCloses}
+use Rattle.splits.specs.Split.{split}
 use Rattle.sweeps.specs.Sweeps.{branches, implied, sweep}
 use Rattle.sweeps.specs.Inner.Work.{KeptOpen}
-use Rattle.sweeps.specs.declared.split.Split.{Split}
+use Rattle.splits.specs.declared.split.Split.{Split}
 
 -- what an open branch knows, where one more sweep changes nothing, is a shut set
 pub ended-shut : (net : Net) (S : ℕ → StuckLines) (W : ℕ) (b : Branch) → b .closed ≡ false → sweep (branches net S) net S W b ≡ b → Shut net S W (known net S (b .values))

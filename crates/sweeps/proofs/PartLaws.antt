@@ -14,7 +14,7 @@ use Rattle.certificate.specs.Certificate.{headLength}
 use Rattle.certificate.proofs.WrittenLaws.{length-certificate, length-head, length-run}
 use Rattle.sweeps.specs.Splits.{branchOf, certificateFor, headFor, stepCount}
 use Rattle.certificate.specs.Written.{written, certificateOf, headBytes, runBytes}
-use Rattle.sweeps.specs.declared.split.Split.{Split}
+use Rattle.splits.specs.declared.split.Split.{Split}
 
 -- a head before a run, written after it
 pub head-before : (hs us l : List ℕ) → length hs + length us ≤ length l → sets (sets l (length hs) us) 0 hs ≡ written (hs ++ us) l

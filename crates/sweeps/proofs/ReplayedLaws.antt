@@ -3,18 +3,18 @@ use mathlib.Core.Bool.{Bool, _||_, false, true, true≢false}
 use mathlib.Core.List.{List, [], _++_, _∷_}
 use mathlib.Core.Option.{some}
 use mathlib.Core.Path.{_≡_, refl, subst, sym}
-use Prim.Native.Nat.{_*_, _+_, _<_, suc, zero, ℕ}
+use Prim.Native.Nat.{_*_, _<_, suc, zero, ℕ}
 use native.Mathlib.Nat.{le-of-suc-le-suc}
 use native.Mathlib.Omega.{arith}
 use lib.Dec.{eqb}
 use lib.ListN.{length}
 use borrow.Author.Tests.{eqb-false}
-use Rattle.circuit.proofs.ClockLaws.{Ordered}
+use Rattle.simulator.proofs.ClockLaws.{Ordered}
 use Rattle.values.proofs.ListLaws.{below-at}
-use Rattle.values.proofs.ValueLaws.{known-is}
+use Rattle.gates.proofs.ValueLaws.{known-is}
 use Rattle.circuit.specs.Fault.{StuckLines}
 use Rattle.netlist.specs.Netlist.{Net}
-use Rattle.values.specs.Value.{isUnknown}
+use Rattle.gates.specs.Value.{isUnknown}
 use Rattle.knowledge.proofs.Agreement.{pinFrame-within}
 use Rattle.checker.proofs.VerdictLaws.{Allowed, Follows, allowed-replay, next-step, no-step}
 use Rattle.knowledge.proofs.WindowLaws.{begin-cases, enter-cases}

@@ -8,17 +8,17 @@ use native.Mathlib.Omega.{arith}
 use lib.Dec.{eqb}
 use lib.ListN.{length, length-append, length-replicate, length-set, replicate, set}
 use lib.Seq.{getD-set-same, sets}
-use Rattle.circuit.proofs.ClockLaws.{Ordered}
+use Rattle.simulator.proofs.ClockLaws.{Ordered}
 use Rattle.netlist.proofs.SoundLaws.{facts, sound-size}
 use Rattle.circuit.specs.Fault.{StuckLines, linesOf}
 use Rattle.values.specs.Lists.{at}
-use Rattle.netlist.specs.Netlist.{Net, netOf, reading, sound}
-use Rattle.values.specs.Value.{differ, isUnknown}
+use Rattle.netlist.specs.Netlist.{Net, netOf, reading, sound, mostNodes}
+use Rattle.gates.specs.Value.{differ, isUnknown}
 use Rattle.circuit.specs.declared.fault.Fault.{Fault}
 use Rattle.knowledge.proofs.Agreement.{conclusion-agree}
 use Rattle.knowledge.proofs.HoldLaws.{begin-closed-in, begin-holds-in, enter-in-slice, held-length, place-within}
 use Rattle.checker.proofs.ReplayLaws.{begin-full}
-use Rattle.knowledge.specs.Window.{Branch, begin, conclusion, enter, inForce, known, presentBelow}
+use Rattle.knowledge.specs.Window.{Branch, begin, conclusion, enter, inForce, known, presentBelow, mostFrames}
 use Rattle.knowledge.specs.Inner.Slice.{Entered, Holds, beginAt, beginIn, entered, holdFrames, knownIn}
 use Rattle.checker.specs.Checker.{closes}
 use Rattle.trace.specs.Trace.{effectDies, mark}
@@ -31,8 +31,6 @@ use Rattle.certificate.proofs.WrittenLaws.{length-run, run-append}
 use Rattle.sweeps.specs.Sweeps.{branches, rising, saysNothing, sweep, sweepFrame, sweeps, tryLine, useRelation, implied}
 use Rattle.sweeps.specs.Inner.Work.{Work, inBytes, takeIn, tally, unknowns, work}
 use Rattle.certificate.specs.Written.{runBytes, stepBytes}
-use Rattle.knowledge.specs.Window.{mostFrames}
-use Rattle.netlist.specs.Netlist.{mostNodes}
 
 module _ (net : Net) (o : Ordered net) (S : ℕ → StuckLines) (W : ℕ) (run : List ℕ) where
   -- what the slices hold; `run` is what stood in the slice of the steps at the start

@@ -10,15 +10,15 @@ use native.Mathlib.Omega.{arith}
 use lib.Dec.{eqb}
 use lib.ListN.{length, length-append}
 use borrow.Author.Tests.{eqb-true}
-use Rattle.circuit.proofs.ClockLaws.{Ordered}
+use Rattle.simulator.proofs.ClockLaws.{Ordered}
 use Rattle.circuit.specs.Fault.{StuckLines}
 use Rattle.netlist.specs.Netlist.{Net}
 use Rattle.values.proofs.BoolLaws.{or-right, or-second}
-use Rattle.values.proofs.GateLaws.{Refines}
+use Rattle.gates.proofs.GateLaws.{Refines}
 use Rattle.values.proofs.ListLaws.{below-at}
-use Rattle.values.proofs.ValueLaws.{known-low}
+use Rattle.gates.proofs.ValueLaws.{known-low}
 use Rattle.values.specs.Lists.{at}
-use Rattle.values.specs.Value.{isUnknown}
+use Rattle.gates.specs.Value.{isUnknown}
 use Rattle.knowledge.proofs.Agreement.{SameNodes, conclusion-frames, pinFrame-either}
 use Rattle.knowledge.specs.Window.{conclusion, inForce}
 use Rattle.certificate.specs.declared.step.Step.{Step}

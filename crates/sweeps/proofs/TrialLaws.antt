@@ -7,14 +7,14 @@ use native.Mathlib.Nat.{div-add-mod', div-lt-iff-lt-mul, mod-lt, mul-comm}
 use native.Mathlib.Omega.{arith}
 use lib.Arith.{digits-div, digits-mod}
 use lib.Dec.{eqb, leb, ltb}
-use lib.ListN.{length, replicate, set}
-use lib.Seq.{ext-getD, set-getD}
-use borrow.Author.Tests.{eq-eqb, eqb-true, le-leb, le-ltb, leb-true, lt-ltb, ltb-true, ne-eqb}
+use lib.ListN.{length, replicate}
+use lib.Seq.{ext-getD}
+use borrow.Author.Tests.{eq-eqb, eqb-true, le-leb, leb-true, ltb-true, ne-eqb}
 use Rattle.values.proofs.BoolLaws.{and-left, and-right, or-right, or-second}
-use Rattle.values.proofs.ListLaws.{every-at, every-by, every-fails, getD-build, length-build, rewritten-more}
-use Rattle.values.proofs.ValueLaws.{known-low, unknown-high, unknown-is}
-use Rattle.values.specs.Lists.{at, every, rewritten}
-use Rattle.values.specs.Value.{isUnknown}
+use Rattle.values.proofs.ListLaws.{every-at, every-by, every-fails, getD-build, length-build}
+use Rattle.gates.proofs.ValueLaws.{known-low, unknown-high, unknown-is}
+use Rattle.values.specs.Lists.{at, every}
+use Rattle.gates.specs.Value.{isUnknown}
 use Rattle.netlist.proofs.SoundLaws.{answered-sound, refused-positive}
 use Rattle.netlist.specs.Answer.{Answer, answered, numberOf, refused}
 use Rattle.circuit.specs.Fault.{StuckLines, faultExists, linesOf}
@@ -22,16 +22,16 @@ use Rattle.netlist.specs.Netlist.{Net, netOf, nodeCount, pinCount, reading, sou
 use Rattle.circuit.specs.declared.fault.Fault.{Fault}
 use Rattle.knowledge.proofs.HoldLaws.{place-within}
 use Rattle.knowledge.specs.Inner.Slice.{Holds, knownIn}
-use Rattle.knowledge.specs.Window.{known, presentBelow}
+use Rattle.knowledge.specs.Window.{known, presentBelow, mostFrames}
 use Rattle.certificate.specs.Certificate.{headLength}
 use Rattle.trace.specs.Inner.Tracing.{Traced, tracing}
 use Rattle.sweeps.proofs.GuessLaws.{held-all, held-nowhere}
-use Rattle.sweeps.specs.Inner.Trials.{Tried, certified, certifying, following, hasHeld, lastBranch, notedWith, noteOver, noting, notingOpen, opening, slicesFit, sweptOnce, tried, trying, windowBytes, windowStands, withNote}
+use Rattle.sweeps.specs.Inner.Trials.{Tried, certified, certifying, following, hasHeld, lastBranch, noting, notingOpen, opening, slicesFit, sweptOnce, tried, trying, windowBytes, windowStands}
+use Rattle.splits.specs.Inner.NoteBytes.{notedWith}
 use Rattle.sweeps.specs.Inner.Work.{HasHeld, Work}
 use Rattle.sweeps.specs.Splits.{certificateFor, splitCloses, stepCount}
 use Rattle.certificate.specs.Written.{written}
-use Rattle.sweeps.specs.declared.split.Split.{Split}
-use Rattle.knowledge.specs.Window.{mostFrames}
+use Rattle.splits.specs.declared.split.Split.{Split}
 
 -- a netlist that is not refused is sound
 number-sound : (bs : List ℕ) → numberOf (reading bs) ≡ 0 → reading bs ≡ sound (nodeCount bs) (pinCount bs)
@@ -216,26 +216,3 @@ module _ (bs : List ℕ) (f : Fault) (c F : ℕ) (values marks : List ℕ) where
       → noting (tried b k l) (cond b (notedWith k c noted) noted) ≡ notingOpen bs f c F values marks noted
   unfolding notingOpen
   noting-by noted b k l e = ap (λ (t : Tried). noting t (cond (t .answer) (notedWith (t .known) c noted) noted)) e
-
--- ---- notes
-
-module _ (values : List ℕ) (c : ℕ) (before notes : List ℕ) (p : ℕ) where
-  after : notes ≡ rewritten (noteOver values c) p before → set notes p (noteOver values c notes p) ≡ rewritten (noteOver values c) (p + 1) before
-  after e = ap (λ (x : List ℕ). set x p (noteOver values c x p)) e ∙ rewritten-more (noteOver values c) before p
-
-  -- a value is noted
-  pub noted-value : (byte : ℕ) → byte ≡ at notes p → at values p < 2 → notes ≡ rewritten (noteOver values c) p before
-      → set notes p (withNote byte (c + 1)) ≡ rewritten (noteOver values c) (p + 1) before
-  unfolding noteOver
-  noted-value byte q h e = ap (λ (x : ℕ). set notes p (withNote x (c + 1))) q ∙ ap (set notes p) new ∙ after e
-    where
-      new : withNote (at notes p) (c + 1) ≡ noteOver values c notes p
-      new = rw (lt-ltb _ _ h)
-
-  -- there is no value
-  pub noted-none : 2 ≤ at values p → notes ≡ rewritten (noteOver values c) p before → notes ≡ rewritten (noteOver values c) (p + 1) before
-  unfolding noteOver
-  noted-none h e = sym (set-getD notes p 0) ∙ ap (set notes p) old ∙ after e
-    where
-      old : at notes p ≡ noteOver values c notes p
-      old = rw (le-ltb _ _ h)

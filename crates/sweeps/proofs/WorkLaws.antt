@@ -9,13 +9,13 @@ use lib.Dec.{eqb}
 use lib.ListN.{length, set}
 use lib.Seq.{sets}
 use borrow.Author.Tests.{eq-eqb, ne-eqb}
-use Rattle.values.proofs.ValueLaws.{differ-unknown, known-is, known-low, unknown-high}
-use Rattle.circuit.specs.Clock.{pinValues}
+use Rattle.gates.proofs.ValueLaws.{differ-unknown, known-is, known-low, unknown-high}
+use Rattle.simulator.specs.Clock.{pinValues}
 use Rattle.circuit.specs.Fault.{StuckLines}
-use Rattle.values.specs.Kind.{controlling, gate, ruleOf}
+use Rattle.gates.specs.Kind.{controlling, gate, ruleOf}
 use Rattle.values.specs.Lists.{at}
 use Rattle.netlist.specs.Netlist.{Net}
-use Rattle.values.specs.Value.{isUnknown, neg}
+use Rattle.gates.specs.Value.{isUnknown, neg}
 use Rattle.trace.specs.Trace.{mark}
 use Rattle.knowledge.specs.Inner.Slice.{Entered, enterAt, entered, knownIn}
 use Rattle.knowledge.specs.Window.{conclusion, inForce, pinConclusion, pinFrame}

@@ -1,5 +1,5 @@
--- What a reader must believe of this crate, each file using only those above it; last Inner, which only the contracts of inner functions
--- speak of.
+-- What a reader must believe of this crate, each file using only those above it; last Inner, which only the contracts of functions speak
+-- of that are no tool of 01.
 pub mod Sweeps
 pub mod Splits
 pub mod Inner

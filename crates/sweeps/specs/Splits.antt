@@ -1,8 +1,7 @@
 -- 01, "Finder": a split of a window, its two branches worked out, whether both close, and its certificate.
-use mathlib.Core.Bool.{Bool, _&&_, cond}
+use mathlib.Core.Bool.{Bool, _&&_}
 use mathlib.Core.List.{List}
 use Prim.Native.Nat.{_+_, ℕ}
-use lib.Dec.{leb, ltb}
 use lib.ListN.{length}
 use Rattle.circuit.specs.Fault.{linesOf}
 use Rattle.netlist.specs.Netlist.{Net}
@@ -12,17 +11,7 @@ use Rattle.knowledge.specs.Window.{Branch, presentBelow}
 use Rattle.sweeps.specs.Sweeps.{implied}
 use Rattle.certificate.specs.Written.{certificateOf}
 use Rattle.certificate.specs.declared.layout.Head.{Head}
-use Rattle.sweeps.specs.declared.split.Split.{Split}
-
-abbrev pub split : ℕ → ℕ → ℕ → Split
-split c t n = record { c = c; frame = t; node = n }
-
--- the following split, in a circuit of N nodes: by c, then frames, then nodes, rising. One of a window above 255 frames stays: the
--- numbers in a split are bytes. `Split::next` is this; WalkLaws of the crate `search` shows that it walks in the order of `tryWindows`.
-unfoldable pub nextSplit : ℕ → ℕ → Split → Split
-nextSplit N F s =
-    cond (leb 255 (s .c + F)) s
-    (cond (ltb (s .node + 1) N) (split (s .c) (s .frame) (s .node + 1)) (cond (ltb (s .frame) (s .c + F)) (split (s .c) (s .frame + 1) 0) (split (s .c + 1) 0 0)))
+use Rattle.splits.specs.declared.split.Split.{Split}
 
 -- what a split's certificate names: fault, c, F, and the split
 abbrev pub headFor : Fault → ℕ → Split → Head

@@ -5,7 +5,7 @@ use lib.Dec.{eqb}
 use lib.ListN.{length}
 use Rattle.circuit.specs.Fault.{StuckLines}
 use Rattle.netlist.specs.Netlist.{Net}
-use Rattle.values.specs.Value.{isUnknown}
+use Rattle.gates.specs.Value.{isUnknown}
 use Rattle.knowledge.specs.Window.{Branch, begin, conclusion, enter, inForce, known}
 use Rattle.certificate.specs.declared.step.Step.{Step}
 

@@ -8,16 +8,15 @@ ghost use Rattle.circuit.specs.Fault.{faultExists, linesOf};
 ghost use Rattle.netlist.specs.Netlist.{netOf, pinCount, reading, sound};
 ghost use Rattle.checker.specs.Checker.{closes};
 ghost use Rattle.knowledge.specs.Inner.Slice.{Holds};
-ghost use Rattle.knowledge.specs.Window.{presentBelow};
+ghost use Rattle.knowledge.specs.Window.{presentBelow, mostFrames};
 ghost use Rattle.sweeps.specs.Inner.Trials.{lastBranch, tried, trying, windowBytes};
 ghost use Rattle.sweeps.specs.Splits.{branchOf, splitCloses};
 ghost use Rattle.certificate.specs.Written.{runBytes};
-ghost use Rattle.knowledge.specs.Window.{mostFrames};
-use crate::split::Split;
 use crate::sweep::Progress;
 use crate::sweep::sweep_to_end;
 use crate::window::window_stands;
 use circuit::Fault;
+use splits::Split;
 
 // Works out the branch of a split that has the value v, and writes its steps into the run, as far
 // as that has room. A sweep without a step ends it, and so does a contradiction.

@@ -3,15 +3,11 @@
 mod branch;
 mod notes;
 mod open;
-mod split;
 mod sweep;
 mod window;
 mod write;
 
 pub use branch::both_close;
-pub use notes::NOTE_UNIT;
-pub use notes::note_known;
 pub use notes::note_open;
 pub use open::is_open_set;
-pub use split::Split;
 pub use write::write_certificate;

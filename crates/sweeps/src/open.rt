@@ -5,8 +5,8 @@ use crate::sweep::Progress;
 use crate::sweep::sweep_once;
 use circuit::Circuit;
 use circuit::Fault;
+use gates::UNKNOWN;
 use knowledge::MOST_FRAMES;
-use values::UNKNOWN;
 
 // Whether a set has what is known from the start: below frame c a faulted node has its stuck value.
 fn holds_fault(n: u16, fault: Fault, c: u8, known: &[u8]) -> bool

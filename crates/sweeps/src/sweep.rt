@@ -4,6 +4,7 @@ ghost use mathlib.Core.Path.{_≡_};
 ghost use mathlib.Core.Bool.{_&&_, true};
 ghost use Prim.Native.Nat.{suc, ℕ, _*_, _+_, _<_, _≤_};
 ghost use lib.Dec.{ltb};
+ghost use lib.ListN.{length};
 ghost use Rattle.circuit.specs.Fault.{linesOf};
 ghost use Rattle.values.specs.Lists.{at};
 ghost use Rattle.netlist.specs.Netlist.{kindOf, lengthOf, netOf, pinCount, reading, sound, sourceOf};
@@ -13,9 +14,9 @@ ghost use Rattle.sweeps.specs.Inner.Work.{CalmFrames, frameNoted, inByte
 use certificate::STEP_LENGTH;
 use certificate::put_step;
 use circuit::Fault;
+use gates::FLIP_FLOP;
+use gates::UNKNOWN;
 use knowledge::MOST_FRAMES;
-use values::FLIP_FLOP;
-use values::UNKNOWN;
 
 // A byte for each frame says whether it is calm.
 const CALM_LENGTH: usize = MOST_FRAMES as usize;
@@ -221,30 +222,6 @@ fn sweep_frame(
     done
 }
 
-// One sweep, by rising frame, in a window of w frames.
-pub(crate) fn sweep_once(
-    netlist: &[u8],
-    n: u16,
-    w: u8,
-    fault: Fault,
-    c: u8,
-    known: &mut [u8],
-    run: &mut [u8],
-    progress: Progress,
-) -> Progress
-    requires { ⌜ n ≡ netOf (now netlist) .size ⌝ }
-    requires { ⌜ tally (work (now known) (now run) (progress .steps) (progress .closed)) ≤ 1048576 ⌝ }
-    ensures { λ r. ⌜ work (now (known .exit)) (now (run .exit)) (r .steps) (r .closed) ≡ sweep (inBytes (netOf (now (netlist .entry)) .size)) (netOf (now (netlist .entry))) (presentBelow c (linesOf fault)) w (work (now (known .entry)) (now (run .entry)) (progress .steps) (progress .closed)) ⌝ }
-{
-    let mut done = progress;
-    let mut frame: u8 = 0;
-    while frame < w {
-        done = sweep_frame(netlist, n, fault, c, frame, known, run, done);
-        frame += 1;
-    }
-    done
-}
-
 // Notes what the sweep of a frame has shown. Without a step the frame is calm: it would make none
 // again. A step tells something new of the frame or the one before, and each frame reads itself and
 // the one before: so the frame and both its neighbours may have something to conclude.
@@ -262,7 +239,8 @@ fn note_frame(calm: &mut [u8], frame: u8, still: bool)
     values::store(calm, place + 1, 0);
 }
 
-// Uses the relations at a frame, unless it is calm: then there is no step to make.
+// Uses the relations at a frame, unless it is calm: then there is no step to make. Calm frames are noted
+// of a sound netlist only: for any other no room is lent.
 fn sweep_unless_calm(
     netlist: &[u8],
     n: u16,
@@ -274,8 +252,9 @@ fn sweep_unless_calm(
     run: &mut [u8],
     progress: Progress,
 ) -> Progress
-    requires { ⌜ reading (now netlist) ≡ sound n (pinCount (now netlist)) ⌝ }
+    requires { ⌜ n ≡ netOf (now netlist) .size ⌝ }
     requires { ⌜ tally (work (now known) (now run) (progress .steps) (progress .closed)) ≤ 1048576 ⌝ }
+    requires { ⌜ (0 < length (now calm) → reading (now netlist) ≡ sound n (pinCount (now netlist))) ⌝ }
     requires { ⌜ CalmFrames (netOf (now netlist)) (presentBelow c (linesOf fault)) (now calm) (work (now known) (now run) (progress .steps) (progress .closed)) ⌝ }
     ensures { λ r. ⌜ work (now (known .exit)) (now (run .exit)) (r .steps) (r .closed) ≡ sweepFrame (inBytes (netOf (now (netlist .entry)) .size)) (netOf (now (netlist .entry))) (presentBelow c (linesOf fault)) frame (work (now (known .entry)) (now (run .entry)) (progress .steps) (progress .closed)) ⌝ }
     ensures { λ r. ⌜ CalmFrames (netOf (now (netlist .entry))) (presentBelow c (linesOf fault)) (now (calm .exit)) (work (now (known .exit)) (now (run .exit)) (r .steps) (r .closed)) ⌝ }
@@ -301,8 +280,9 @@ fn sweep_window(
     run: &mut [u8],
     progress: Progress,
 ) -> Progress
-    requires { ⌜ reading (now netlist) ≡ sound n (pinCount (now netlist)) ⌝ }
+    requires { ⌜ n ≡ netOf (now netlist) .size ⌝ }
     requires { ⌜ tally (work (now known) (now run) (progress .steps) (progress .closed)) ≤ 1048576 ⌝ }
+    requires { ⌜ (0 < length (now calm) → reading (now netlist) ≡ sound n (pinCount (now netlist))) ⌝ }
     requires { ⌜ CalmFrames (netOf (now netlist)) (presentBelow c (linesOf fault)) (now calm) (work (now known) (now run) (progress .steps) (progress .closed)) ⌝ }
     ensures { λ r. ⌜ work (now (known .exit)) (now (run .exit)) (r .steps) (r .closed) ≡ sweep (inBytes (netOf (now (netlist .entry)) .size)) (netOf (now (netlist .entry))) (presentBelow c (linesOf fault)) w (work (now (known .entry)) (now (run .entry)) (progress .steps) (progress .closed)) ⌝ }
     ensures { λ r. ⌜ CalmFrames (netOf (now (netlist .entry))) (presentBelow c (linesOf fault)) (now (calm .exit)) (work (now (known .exit)) (now (run .exit)) (r .steps) (r .closed)) ⌝ }
@@ -314,6 +294,26 @@ fn sweep_window(
         frame += 1;
     }
     done
+}
+
+// One sweep, by rising frame, in a window of w frames. There is no room to note calm frames, so none is
+// left out, and nothing is asked of the netlist: that a frame stays calm is shown for sound ones only.
+pub(crate) fn sweep_once(
+    netlist: &[u8],
+    n: u16,
+    w: u8,
+    fault: Fault,
+    c: u8,
+    known: &mut [u8],
+    run: &mut [u8],
+    progress: Progress,
+) -> Progress
+    requires { ⌜ n ≡ netOf (now netlist) .size ⌝ }
+    requires { ⌜ tally (work (now known) (now run) (progress .steps) (progress .closed)) ≤ 1048576 ⌝ }
+    ensures { λ r. ⌜ work (now (known .exit)) (now (run .exit)) (r .steps) (r .closed) ≡ sweep (inBytes (netOf (now (netlist .entry)) .size)) (netOf (now (netlist .entry))) (presentBelow c (linesOf fault)) w (work (now (known .entry)) (now (run .entry)) (progress .steps) (progress .closed)) ⌝ }
+{
+    let mut none = [0u8; 0];
+    sweep_window(netlist, n, w, fault, c, &mut none, known, run, progress)
 }
 
 // Sweeps until one makes no step or meets a contradiction. At first no frame is calm.

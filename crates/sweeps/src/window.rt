@@ -1,12 +1,12 @@
 // Whether there is a window to work in.
 ghost use mathlib.Core.Path.{_≡_};
 ghost use Rattle.sweeps.specs.Inner.Trials.{windowStands};
-use crate::split::Split;
 use circuit::Fault;
 use knowledge::MOST_FRAMES;
+use splits::Split;
 
-// Whether the netlist is sound, the fault exists, and the split lies in a window of 15 frames at most,
-// which has so many places.
+// Whether the netlist is sound, the fault exists, and the split lies in a window that is not too long and
+// has so many places.
 pub(crate) fn window_stands(
     netlist: &[u8],
     fault: Fault,

@@ -11,13 +11,13 @@ ghost use Rattle.certificate.specs.Written.{written};
 ghost use Rattle.knowledge.specs.Window.{mostFrames};
 ghost use Rattle.certificate.specs.Certificate.{headLength};
 use crate::branch::work_branch;
-use crate::split::Split;
 use crate::window::window_stands;
 use certificate::HEAD_LENGTH;
 use certificate::Head;
 use certificate::STEP_LENGTH;
 use certificate::write_head;
 use circuit::Fault;
+use splits::Split;
 
 // What a split's certificate names.
 fn head_for(fault: Fault, f: u8, split: Split) -> Head

@@ -14,12 +14,12 @@ use Rattle.trace.proofs.TraceAgreement.{markNext}
 use Rattle.trace.specs.Trace.{cleared, effectDies, gateMark, latchedMark, latchedMarks, latchedUntouched, mark, marksList, nodeMark, outputUntouched, pinMarks, siteMark, someMark, untouchedValue, untouchedValues}
 use Rattle.trace.specs.Inner.Tracing.{traced, tracing}
 use Rattle.values.proofs.ListLaws.{build-rest, build-same, length-build, take-inside}
-use Rattle.values.proofs.ValueLaws.{known-low, unknown-high}
+use Rattle.gates.proofs.ValueLaws.{known-low, unknown-high}
 use Rattle.circuit.specs.Fault.{StuckLines, noneStuck}
-use Rattle.values.specs.Kind.{gate, isFlipFlop, isGiven, isOutput}
+use Rattle.gates.specs.Kind.{gate, isFlipFlop, isGiven, isOutput}
 use Rattle.values.specs.Lists.{at, build, every}
 use Rattle.netlist.specs.Netlist.{Net}
-use Rattle.values.specs.Value.{isUnknown}
+use Rattle.gates.specs.Value.{isUnknown}
 
 -- a line that is touched is enough
 pub some-at : (ms : List ℕ) (k : ℕ) → k < length ms → (at ms k ≡ 0 → ⊥) → someMark ms ≡ true

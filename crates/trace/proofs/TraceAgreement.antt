@@ -5,13 +5,13 @@ use mathlib.Core.Path.{_∙_, _≡_, ap, refl}
 use Prim.Native.Nat.{_+_, _<_, suc, zero, ℕ}
 use native.Mathlib.Omega.{arith}
 use Rattle.trace.specs.Trace.{effectDies, gateMark, latchedMark, latchedMarks, latchedUntouched, mark, marksList, nodeMark, outputUntouched, pinMark, pinMarks, siteMark, someMark, untouchedValue}
-use Rattle.circuit.proofs.ClockLaws.{Ordered}
+use Rattle.simulator.proofs.ClockLaws.{Ordered}
 use Rattle.values.proofs.ListLaws.{Below, build-agree, build-same, getD-build, indexed-agree}
 use Rattle.circuit.specs.Fault.{StuckLines, noneStuck}
-use Rattle.values.specs.Kind.{gate, isFlipFlop, isGiven}
+use Rattle.gates.specs.Kind.{gate, isFlipFlop, isGiven}
 use Rattle.values.specs.Lists.{at, build, every}
 use Rattle.netlist.specs.Netlist.{Net}
-use Rattle.values.specs.Value.{isUnknown}
+use Rattle.gates.specs.Value.{isUnknown}
 use Rattle.knowledge.proofs.Agreement.{SameNodes, SameWindow}
 
 -- One frame of the effect trace: the mark of a node depends on what is known of it and its sources, and on their marks.

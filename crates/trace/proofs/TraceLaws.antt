@@ -12,19 +12,17 @@ use lib.ListN.{length}
 use borrow.Author.Tests.{eq-eqb, eqb-true, ne-eqb}
 use Rattle.trace.proofs.TraceAgreement.{latched-law, marks-law}
 use Rattle.trace.proofs.MarkLaws.{some-at, value-touched}
-use Rattle.trace.specs.Trace.{effectDies, gateMark, latchedMark, latchedMarks, marksList, nodeMark, pinMark, pinMarks}
-use Rattle.trace.specs.Trace.{latchedUntouched, mark, outputUntouched, siteMark, someMark, untouchedValue, untouchedValues}
+use Rattle.trace.specs.Trace.{effectDies, gateMark, latchedMark, latchedMarks, marksList, nodeMark, pinMark, pinMarks, latchedUntouched, mark, outputUntouched, siteMark, someMark, untouchedValue, untouchedValues}
 use Rattle.values.proofs.BoolLaws.{and-left, and-right, or-right}
-use Rattle.circuit.proofs.ClockLaws.{Ordered}
-use Rattle.values.proofs.GateLaws.{Controls, EveryPin, Parity, SomePin, Wired, controls-binary, neg-binary, parity-open, wired-value}
-use Rattle.values.proofs.GateLaws.{controlled, controlled-by, uncontrolled-by, unsettled}
+use Rattle.simulator.proofs.ClockLaws.{Ordered}
+use Rattle.gates.proofs.GateLaws.{Controls, EveryPin, Parity, SomePin, Wired, controls-binary, neg-binary, parity-open, wired-value, controlled, controlled-by, uncontrolled-by, unsettled}
 use Rattle.values.proofs.ListLaws.{every-at, every-by, indexed-at, length-indexed, list-of-one, list-of-two}
-use Rattle.values.proofs.ValueLaws.{known-low, known-is, unknown-high}
+use Rattle.gates.proofs.ValueLaws.{known-low, known-is, unknown-high}
 use Rattle.circuit.specs.Fault.{StuckLines, noneStuck}
-use Rattle.values.specs.Kind.{gate, invertedIf, isFlipFlop, isGiven, isOutput}
+use Rattle.gates.specs.Kind.{gate, invertedIf, isFlipFlop, isGiven, isOutput}
 use Rattle.values.specs.Lists.{at, every}
 use Rattle.netlist.specs.Netlist.{Net}
-use Rattle.values.specs.Value.{isUnknown, neg}
+use Rattle.gates.specs.Value.{isUnknown, neg}
 
 -- A faulted line (u is 0 or 1) is touched unless known (v) to be u; any other as `otherwise` says.
 module _ (u v otherwise : ℕ) where

@@ -11,15 +11,15 @@ use Rattle.trace.proofs.TraceAgreement.{latched-law, marks-law}
 use Rattle.trace.proofs.MarkLaws.{gate-touched, gate-untouched, mark-known, no-mark, no-mark-not}
 use Rattle.trace.proofs.TraceLaws.{NothingTouched, dies-says, latchedAt, marksAt, says-dies, startingIn}
 use Rattle.trace.specs.Trace.{effectDies, gateMark, latchedMark, mark, marksList, nodeMark, pinMark, pinMarks, siteMark, someMark, untouchedValue, untouchedValues}
-use Rattle.values.proofs.GateLaws.{Refines, RefinesAll, gate-mono, indexed-refines}
+use Rattle.gates.proofs.GateLaws.{Refines, RefinesAll, gate-mono, indexed-refines}
 use Rattle.values.proofs.ListLaws.{Below, bcons, below-at, bnil}
-use Rattle.values.proofs.ValueLaws.{known-is}
-use Rattle.circuit.proofs.ClockLaws.{Ordered}
+use Rattle.gates.proofs.ValueLaws.{known-is}
+use Rattle.simulator.proofs.ClockLaws.{Ordered}
 use Rattle.circuit.specs.Fault.{StuckLines}
-use Rattle.values.specs.Kind.{gate, isFlipFlop, isGiven}
+use Rattle.gates.specs.Kind.{gate, isFlipFlop, isGiven}
 use Rattle.values.specs.Lists.{at, indexed}
 use Rattle.netlist.specs.Netlist.{Net}
-use Rattle.values.specs.Value.{isUnknown}
+use Rattle.gates.specs.Value.{isUnknown}
 use Rattle.knowledge.proofs.Monotone.{More, MoreAt}
 
 site-anti : (u v w x y : ℕ) → Refines v w → (x ≡ 0 → y ≡ 0) → siteMark u v x ≡ 0 → siteMark u w y ≡ 0

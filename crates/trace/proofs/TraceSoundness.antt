@@ -14,17 +14,17 @@ use Rattle.trace.proofs.MarkLaws.{no-mark, no-mark-not}
 use Rattle.trace.specs.Trace.{effectDies, gateMark, latchedMark, latchedMarks, latchedUntouched, mark, marksList, nodeMark, outputUntouched, pinMark, pinMarks, siteMark, someMark, untouchedValue, untouchedValues}
 use Rattle.knowledge.specs.Window.{presentBelow}
 use Rattle.values.proofs.BoolLaws.{and-left, and-right, implied}
-use Rattle.circuit.proofs.ClockLaws.{Ordered, latched-at, seen-law}
-use Rattle.values.proofs.GateLaws.{Refines, RefinesAll, gate-mono, indexed-refines}
+use Rattle.simulator.proofs.ClockLaws.{Ordered, latched-at, seen-law}
+use Rattle.gates.proofs.GateLaws.{Refines, RefinesAll, gate-mono, indexed-refines}
 use Rattle.values.proofs.ListLaws.{Below, bcons, bnil, every-at}
-use Rattle.values.proofs.ValueLaws.{known-is}
-use Rattle.circuit.specs.Clock.{latchedBy, pinValues, seenBy}
-use Rattle.circuit.specs.ClockLists.{clockStart, latchedAfter, seenAfter}
+use Rattle.gates.proofs.ValueLaws.{known-is}
+use Rattle.simulator.specs.Clock.{latchedBy, pinValues, seenBy}
+use Rattle.simulator.specs.ClockLists.{clockStart, latchedAfter, seenAfter}
 use Rattle.circuit.specs.Fault.{StuckLines, noneStuck}
-use Rattle.values.specs.Kind.{gate, isFlipFlop, isGiven, isOutput}
+use Rattle.gates.specs.Kind.{gate, isFlipFlop, isGiven, isOutput}
 use Rattle.values.specs.Lists.{at, every, indexed}
 use Rattle.netlist.specs.Netlist.{Net}
-use Rattle.values.specs.Value.{isUnknown, stuckOr}
+use Rattle.gates.specs.Value.{isUnknown, stuckOr}
 
 -- an untouched line of value x in the good circuit has it in the faulty one, where its own value would be y
 site-same : (u v m x y : ℕ) → siteMark u v m ≡ 0 → Refines v x → (m ≡ 0 → x ≡ y) → x ≡ stuckOr u y

@@ -5,10 +5,10 @@ use Prim.Native.Nat.{_+_, suc, zero, ℕ}
 use lib.Dec.{eqb}
 use lib.ListN.{drop, replicate}
 use Rattle.circuit.specs.Fault.{StuckLines, noneStuck}
-use Rattle.values.specs.Kind.{gate, isFlipFlop, isGiven, isOutput}
+use Rattle.gates.specs.Kind.{gate, isFlipFlop, isGiven, isOutput}
 use Rattle.values.specs.Lists.{at, build, every, indexed, table}
 use Rattle.netlist.specs.Netlist.{Net}
-use Rattle.values.specs.Value.{isUnknown}
+use Rattle.gates.specs.Value.{isUnknown}
 
 -- a mark is 1 where a line is touched, 0 where not
 abbrev pub mark : Bool → ℕ

@@ -6,7 +6,7 @@ ghost use mathlib.Core.List.{_++_, []};
 ghost use Prim.Native.Nat.{_*_, _+_, _≤_};
 ghost use lib.ListN.{drop, length, replicate, take};
 ghost use Rattle.circuit.specs.Fault.{linesIn, linesOf};
-ghost use Rattle.values.specs.Kind.{gate};
+ghost use Rattle.gates.specs.Kind.{gate};
 ghost use Rattle.values.specs.Lists.{at, every};
 ghost use Rattle.netlist.specs.Netlist.{kindOf, netOf, sourceOf};
 ghost use Rattle.knowledge.specs.Inner.Slice.{knownIn};
@@ -15,10 +15,10 @@ ghost use Rattle.trace.specs.Inner.Tracing.{traced, tracing};
 use circuit::Circuit;
 use circuit::Fault;
 use circuit::NOT_STUCK;
+use gates::FLIP_FLOP;
+use gates::OUTPUT;
+use gates::UNKNOWN;
 use knowledge::place_of;
-use values::FLIP_FLOP;
-use values::OUTPUT;
-use values::UNKNOWN;
 
 // A faulted line is touched unless its value is known to be the stuck one; any other as it is said.
 fn site_mark(stuck: u8, value: u8, otherwise: u8) -> u8
@@ -109,16 +109,16 @@ fn untouched_gate(
 ) -> u8
     ensures { λ r. ⌜ r ≡ gate (kindOf (now (netlist .entry)) node) (untouchedValues (netOf (now (netlist .entry))) (linesIn circuit) (at (now (values .entry))) (at (take limit (now (marks .entry)))) node) ⌝ }
 {
-    let rule = values::rule_of(netlist::kind_of(netlist, node));
+    let rule = gates::rule_of(netlist::kind_of(netlist, node));
     let gate = rule.gate;
-    let mut value = values::unit_of(gate);
+    let mut value = gates::unit_of(gate);
     let mut pin = netlist::length_of(netlist, node);
     while 0 < pin {
         pin -= 1;
         let read = untouched_value(netlist, circuit, values, marks, limit, node, pin);
-        value = values::join_of(gate, read, value);
+        value = gates::join_of(gate, read, value);
     }
-    values::inverted_if(rule.inverted, value)
+    gates::inverted_if(rule.inverted, value)
 }
 
 // A node with a touched pin is touched unless its untouched pins settle its value.
@@ -153,7 +153,7 @@ fn node_mark(netlist: &[u8], circuit: Circuit, values: &[u8], marks: &[u8], node
     if kind == FLIP_FLOP {
         return site_mark(stuck, value, values::byte_at(marks, node as usize));
     }
-    if values::is_given(kind) {
+    if gates::is_given(kind) {
         return site_mark(stuck, value, 0);
     }
     site_mark(

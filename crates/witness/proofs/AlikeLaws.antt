@@ -3,10 +3,10 @@ use mathlib.Core.List.{List, [], _∷_}
 use Prim.Native.Nat.{suc, ℕ}
 use native.Mathlib.Nat.{suc-add, zero-add}
 use native.Mathlib.Omega.{arith}
-use Rattle.circuit.specs.ClockLists.{InputBits, LatchedBits, first-clock, latchedAfter, no-clocks, seenAfter}
+use Rattle.simulator.specs.ClockLists.{InputBits, LatchedBits, first-clock, latchedAfter, no-clocks, seenAfter}
 use Rattle.circuit.specs.Fault.{StuckLines, noneStuck}
 use Rattle.netlist.specs.Netlist.{Net}
-use Rattle.circuit.specs.Statement.{EqualOutputs}
+use Rattle.simulator.specs.Statement.{EqualOutputs}
 use Rattle.witness.specs.Inner.Alike.{Alike, AlikeFrom, SameOutputs}
 
 module _ (net : Net) (faulted : StuckLines) where

@@ -12,11 +12,11 @@ use borrow.Author.Tests.{eqb-false, eqb-true, not-true}
 use Rattle.values.proofs.BoolLaws.{and-left, and-right}
 use Rattle.values.proofs.ListLaws.{any-found, build-end, build-rest, getD-build, length-build, rewritten-build}
 use Rattle.values.proofs.SetsLaws.{sets-whole}
-use Rattle.values.specs.Kind.{isFlipFlop, isOutput}
+use Rattle.gates.specs.Kind.{isFlipFlop, isOutput}
 use Rattle.values.specs.Lists.{any, at, table}
-use Rattle.circuit.proofs.ClockLaws.{Ordered, latched-into, seenList-agree, settled-seen}
-use Rattle.circuit.specs.Inner.Places.{latchedInto, settled}
-use Rattle.circuit.specs.ClockLists.{InputBits, LatchedBits, clockStart, latchedAfter, seenAfter}
+use Rattle.simulator.proofs.ClockLaws.{Ordered, latched-into, seenList-agree, settled-seen}
+use Rattle.simulator.specs.Inner.Places.{latchedInto, settled}
+use Rattle.simulator.specs.ClockLists.{InputBits, LatchedBits, clockStart, latchedAfter, seenAfter}
 use Rattle.circuit.specs.Fault.{StuckLines, noneStuck}
 use Rattle.netlist.specs.Netlist.{Net}
 use Rattle.witness.proofs.AlikeLaws.{alike-next, alike-now, from-next}

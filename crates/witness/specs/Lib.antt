@@ -1,2 +1,2 @@
--- No answer of the kit rests on this crate's definitions: only the contracts of inner functions speak of them.
+-- No answer of the kit rests on this crate's definitions: only the contracts of functions speak of them that are no tool of 01.
 pub mod Inner

@@ -2,14 +2,14 @@
 // given its inputs at the places of inputs, and leaves the seen values of all nodes.
 ghost use mathlib.Core.Path.{_≡_};
 ghost use Rattle.values.specs.Lists.{any};
-ghost use Rattle.circuit.specs.ClockLists.{clockStart};
+ghost use Rattle.simulator.specs.ClockLists.{clockStart};
 ghost use Rattle.circuit.specs.Fault.{linesIn, linesOf};
 ghost use Rattle.netlist.specs.Netlist.{netOf};
 ghost use Rattle.witness.specs.Inner.Clocks.{bothStep, clocked, compared, held, outputDiffers, started};
 use circuit::Circuit;
 use circuit::Fault;
-use values::FLIP_FLOP;
-use values::OUTPUT;
+use gates::FLIP_FLOP;
+use gates::OUTPUT;
 use values::byte_at;
 use values::copy;
 use values::store;
@@ -44,8 +44,8 @@ pub fn run_clock(netlist: &[u8], circuit: Circuit, latched: &mut [u8], values: &
 {
     let n = netlist::node_count(netlist);
     start_clock(netlist, n, latched, values);
-    circuit::settle(netlist, n, circuit, values);
-    circuit::latch(netlist, n, circuit, values, latched);
+    simulator::settle(netlist, n, circuit, values);
+    simulator::latch(netlist, n, circuit, values, latched);
 }
 
 // Whether a node is an output at which the two circuits differ.

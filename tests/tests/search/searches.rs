@@ -8,7 +8,7 @@
 pub mod nothing {
     use crate::port::as_it_is::search::quick::lanes::Hit;
     use crate::port::circuit::Fault;
-    use crate::port::values::UNKNOWN;
+    use crate::port::gates::UNKNOWN;
 
     pub(crate) use crate::port::as_it_is::search::quick::Window;
 

@@ -8,7 +8,7 @@ use Rattle.capi.proofs.leverpeach_simulate.Reads as reads
 use Rattle.capi.proofs.leverpeach_simulate.Lts as lts
 use Rattle.capi.proofs.circuit_of.Reads as circuit-of-reads
 use Rattle.capi.proofs.number_of_step.Reads as number-of-step-reads
-use Rattle.circuit.proofs.simulate.Reads as simulate-reads
+use Rattle.simulator.proofs.simulate.Reads as simulate-reads
 
 circuit-of-requires : tie.Need-circuit-of-requires
 circuit-of-requires c κs = search needs

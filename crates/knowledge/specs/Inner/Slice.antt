@@ -5,7 +5,7 @@ use mathlib.Core.Path.{_≡_}
 use Prim.Native.Nat.{_*_, _+_, _<_, suc, zero, ℕ}
 use lib.ListN.{replicate, set}
 use Rattle.values.specs.Lists.{at}
-use Rattle.values.specs.Value.{differ, isUnknown}
+use Rattle.gates.specs.Value.{differ, isUnknown}
 use Rattle.netlist.specs.Netlist.{Net}
 use Rattle.circuit.specs.Fault.{StuckLines, linesOf}
 use Rattle.circuit.specs.declared.fault.Fault.{Fault}

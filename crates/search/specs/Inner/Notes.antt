@@ -4,16 +4,13 @@ use mathlib.Core.Bool.{false}
 use mathlib.Core.List.{List}
 use mathlib.Core.Logic.{_⊎_}
 use mathlib.Core.Path.{_≡_}
-use Prim.Native.Nat.{_*_, _+_, _/_, _<_, ℕ}
+use Prim.Native.Nat.{_*_, _+_, _<_, ℕ}
 use Rattle.values.specs.Lists.{at}
 use Rattle.netlist.specs.Netlist.{Net}
 use Rattle.circuit.specs.declared.fault.Fault.{Fault}
 use Rattle.sweeps.specs.Splits.{splitCloses}
-use Rattle.sweeps.specs.declared.split.Split.{Split}
-
--- The notes hold two things in a byte: a guessed value, in the two low bits, and above them the note, which is c + 1, or 0 for none.
-abbrev pub noteAt : List ℕ → ℕ → ℕ
-noteAt noted place = at noted place / 4
+use Rattle.splits.specs.Inner.NoteBytes.{noteAt}
+use Rattle.splits.specs.declared.split.Split.{Split}
 
 -- A place of the notes after the values of a set in the window of c were noted: as it was, or with the note c + 1 where the set has a value.
 unfoldable pub Noted : List ℕ → ℕ → List ℕ → List ℕ → ℕ → Type 0

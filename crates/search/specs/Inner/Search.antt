@@ -8,7 +8,7 @@ use Rattle.trace.specs.Trace.{cleared}
 use Rattle.search.specs.FinderCall.{FinderCall, finderTests, windowSize}
 use Rattle.search.specs.FirstSplit.{firstSplit}
 use Rattle.search.specs.declared.answer.Searched.{Searched}
-use Rattle.sweeps.specs.declared.split.Split.{Split}
+use Rattle.splits.specs.declared.split.Split.{Split}
 
 -- the answer, and what the two work slices then hold
 pub record SearchOutcome : Type 0 where

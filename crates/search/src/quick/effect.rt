@@ -8,10 +8,10 @@ use crate::trial::NODES_AT_MOST;
 use circuit::Circuit;
 use circuit::Fault;
 use circuit::Site;
-use values::FLIP_FLOP;
-use values::Gate;
-use values::OUTPUT;
-use values::UNKNOWN;
+use gates::FLIP_FLOP;
+use gates::Gate;
+use gates::OUTPUT;
+use gates::UNKNOWN;
 use values::byte_at;
 use values::store;
 
@@ -55,12 +55,12 @@ fn touch(netlist: &[u8], fan: &[u16], node: u16, flags: &mut [u8]) {
 
 // The value of an untouched pin that stops the effect; UNKNOWN + 1 where none does.
 fn blocking_value(kind: u8) -> u8 {
-    let rule = values::rule_of(kind);
+    let rule = gates::rule_of(kind);
     let gate = rule.gate;
     match gate {
         Gate::Wire => UNKNOWN + 1,
         Gate::Xor => UNKNOWN + 1,
-        _ => values::controlling_value(gate),
+        _ => gates::controlling_value(gate),
     }
 }
 

@@ -11,8 +11,8 @@ use crate::quick::window::Window;
 use crate::quick::window::row_of;
 use circuit::Fault;
 use circuit::Site;
-use sweeps::NOTE_UNIT;
-use values::UNKNOWN;
+use gates::UNKNOWN;
+use splits::NOTE_UNIT;
 use values::byte_at;
 
 // How many places are added before the effect is looked at.
@@ -284,7 +284,7 @@ pub(crate) fn guess(
     let fault = window.fault;
     let c = window.c;
     let source = line_source(netlist, fault);
-    let excited = values::negation(fault.stuck);
+    let excited = gates::negation(fault.stuck);
     if side_open(netlist, window, fan, source, c, excited, known, trail) {
         extend_all(netlist, window, fan, known, trail, noted);
     } else {

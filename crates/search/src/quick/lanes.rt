@@ -8,10 +8,10 @@ use crate::trial::NODES_AT_MOST;
 use circuit::Circuit;
 use circuit::Fault;
 use circuit::NOT_STUCK;
-use values::FLIP_FLOP;
-use values::Gate;
-use values::INPUT;
-use values::OUTPUT;
+use gates::FLIP_FLOP;
+use gates::Gate;
+use gates::INPUT;
+use gates::OUTPUT;
 
 // A node has four words: its seen values in the good circuit and in the faulty one, and what it has
 // latched in each.
@@ -109,10 +109,10 @@ fn inverted_pair(inverted: bool, pair: Pair) -> Pair {
 }
 
 fn gate_pair(netlist: &[u8], fault: Fault, node: u16, words: &[u64]) -> Pair {
-    let rule = values::rule_of(netlist::kind_of(netlist, node));
+    let rule = gates::rule_of(netlist::kind_of(netlist, node));
     let gate = rule.gate;
     let place = netlist::pins_place(netlist, node);
-    let unit = in_all(values::unit_of(gate));
+    let unit = in_all(gates::unit_of(gate));
     let count = netlist::length_of(netlist, node);
     let mut pair = Pair {
         good: unit,

@@ -5,12 +5,12 @@ use crate::quick::window::circuit_in;
 use crate::quick::window::row_of;
 use circuit::Circuit;
 use circuit::NOT_STUCK;
-use values::Gate;
-use values::UNKNOWN;
+use gates::Gate;
+use gates::UNKNOWN;
+use gates::inverted_if;
+use gates::join_of;
+use gates::negation;
 use values::byte_at;
-use values::inverted_if;
-use values::join_of;
-use values::negation;
 
 // The relation of a node at a frame. Place: where its pins stand in the netlist; circuit: the one that
 // they read in; row: where the values of their frame begin; out: where the node's own value stands.
@@ -225,7 +225,7 @@ pub(crate) fn use_relation(
     if !knowledge::in_force(netlist, fault, window.c, node, frame) {
         return;
     }
-    let rule = values::rule_of(netlist::kind_of(netlist, node));
+    let rule = gates::rule_of(netlist::kind_of(netlist, node));
     let relation = relation_at(netlist, window, node, frame, rule.inverted);
     let gate = rule.gate;
     match gate {
@@ -234,7 +234,7 @@ pub(crate) fn use_relation(
         _ => use_gate(
             netlist,
             relation,
-            values::controlling_value(gate),
+            gates::controlling_value(gate),
             known,
             trail,
         ),

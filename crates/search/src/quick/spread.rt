@@ -10,8 +10,8 @@ use crate::quick::trail::undo;
 use crate::quick::window::Window;
 use crate::quick::window::frame_after;
 use crate::quick::words::word_at;
-use values::FLIP_FLOP;
-use values::UNKNOWN;
+use gates::FLIP_FLOP;
+use gates::UNKNOWN;
 use values::byte_at;
 
 // Uses the relation of a reader of a node that has got a value at a frame; a flip-flop's is that of

@@ -4,7 +4,7 @@
 use crate::quick::words::plus;
 use crate::quick::words::put_word;
 use crate::quick::words::word_at;
-use values::UNKNOWN;
+use gates::UNKNOWN;
 use values::byte_at;
 use values::store;
 
@@ -15,8 +15,10 @@ const STOPPED: usize = 1;
 // Where the first place stands.
 pub(crate) const START: u16 = 2;
 
-// Words for the places that are entered together; what needs more is given up.
-pub(crate) const TRAIL_LENGTH: usize = 2 + 16384;
+// So many places may be entered together; what needs more is given up.
+const PLACES: usize = 16384;
+
+pub(crate) const TRAIL_LENGTH: usize = START as usize + PLACES;
 
 pub(crate) fn end_of(trail: &[u16]) -> u16 {
     word_at(trail, END)

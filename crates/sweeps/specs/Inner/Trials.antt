@@ -4,8 +4,8 @@ use mathlib.Core.List.{List, []}
 use Prim.Native.Nat.{_%_, _*_, _+_, _/_, ℕ}
 use lib.Dec.{eqb, leb, ltb}
 use lib.ListN.{length, replicate}
-use Rattle.values.specs.Lists.{at, every, rewritten, table}
-use Rattle.values.specs.Value.{isUnknown}
+use Rattle.values.specs.Lists.{at, every, table}
+use Rattle.gates.specs.Value.{isUnknown}
 use Rattle.netlist.specs.Answer.{numberOf}
 use Rattle.circuit.specs.Fault.{StuckLines, faultExists, linesOf}
 use Rattle.netlist.specs.Netlist.{Net, netOf, reading}
@@ -13,16 +13,16 @@ use Rattle.circuit.specs.declared.fault.Fault.{Fault}
 use Rattle.certificate.specs.Certificate.{headLength}
 use Rattle.checker.specs.Checker.{closes}
 use Rattle.trace.specs.Inner.Tracing.{tracing}
-use Rattle.knowledge.specs.Window.{Branch, known, presentBelow}
+use Rattle.knowledge.specs.Window.{Branch, known, presentBelow, mostFrames}
 use Rattle.knowledge.specs.Inner.Slice.{knownIn}
 use Rattle.sweeps.specs.Inner.Work.{Work, inBytes, work}
 use Rattle.sweeps.specs.Splits.{branchOf, certificateFor, splitCloses, stepCount}
 use Rattle.sweeps.specs.Sweeps.{sweep}
 use Rattle.certificate.specs.Written.{written}
-use Rattle.sweeps.specs.declared.split.Split.{Split}
-use Rattle.knowledge.specs.Window.{mostFrames}
+use Rattle.splits.specs.Inner.NoteBytes.{notedWith}
+use Rattle.splits.specs.declared.split.Split.{Split}
 
--- The netlist is sound, the fault exists, and the split lies in a window of 15 frames at most, which has so many places.
+-- The netlist is sound, the fault exists, and the split lies in a window that is not too long and has so many places.
 unfoldable pub windowStands : List ℕ → Fault → ℕ → Split → ℕ → Bool
 windowStands netlist f F s places =
     let net = netOf netlist in
@@ -69,7 +69,7 @@ following net f c F swept marks =
     let t = tracing net (linesOf f) c F (knownIn (swept .known) (net .size)) marks in
     cond (eqb (swept .steps) 0) (tried (not (t .dies)) (swept .known) (t .marks)) (tried false (swept .known) marks)
 
--- the window of c has 15 frames at most, and both slices have a byte for each of its places; N: the number of nodes
+-- the window of c is not too long, and both slices have a byte for each of its places; N: the number of nodes
 unfoldable pub slicesFit : ℕ → ℕ → ℕ → List ℕ → List ℕ → Bool
 slicesFit N c F values marks = leb (c + F + 1) mostFrames && (eqb (length values) (N * (c + F + 1)) && eqb (length marks) (N * (c + F + 1)))
 
@@ -99,20 +99,6 @@ certifying netlist f F s values certificate =
     cond (windowStands netlist f F s (length values) && leb (headLength + 14 * length values) (length certificate))
     (certified (stepCount net f F s) (replicate (length values) 0) (written (certificateFor net f F s) certificate))
     (certified 0 values certificate)
-
--- Notes hold two things in a byte: a guessed value, in the two low bits, and above them the note. This is a byte with the note x in place
--- of its own.
-abbrev pub withNote : ℕ → ℕ → ℕ
-withNote byte x = byte % 4 + 4 * x
-
--- place p of notes after the set was noted, in the window of c: a new note where the set has a value, else the byte as it was
-unfoldable pub noteOver : List ℕ → ℕ → List ℕ → ℕ → ℕ
-noteOver values c noted p = cond (ltb (at values p) 2) (withNote (at noted p) (c + 1)) (at noted p)
-
--- The notes after each value of a set in the window of c was noted, by c + 1 at its place. For a c above 14 there is no window, and nothing
--- is noted.
-unfoldable pub notedWith : List ℕ → ℕ → List ℕ → List ℕ
-notedWith values c noted = cond (ltb c mostFrames) (rewritten (noteOver values c) (length values) noted) noted
 
 -- an answer, and what the lent slices of values, of marks and of notes then hold
 pub record Noting : Type 0 where

@@ -7,7 +7,7 @@ use Prim.Native.Nat.{_*_, _+_, _<_, pred, ℕ}
 use lib.ListN.{set}
 use lib.Seq.{sets}
 use Rattle.values.specs.Lists.{at}
-use Rattle.values.specs.Value.{isUnknown}
+use Rattle.gates.specs.Value.{isUnknown}
 use Rattle.circuit.specs.Fault.{StuckLines, linesOf}
 use Rattle.netlist.specs.Netlist.{Net}
 use Rattle.circuit.specs.declared.fault.Fault.{Fault}
@@ -15,7 +15,8 @@ use Rattle.trace.specs.Trace.{mark}
 use Rattle.knowledge.specs.Inner.Slice.{enterAt, knownIn}
 use Rattle.knowledge.specs.Window.{presentBelow}
 use Rattle.certificate.specs.declared.step.Step.{Step}
-use Rattle.sweeps.specs.Splits.{split, splitCloses}
+use Rattle.splits.specs.Split.{split}
+use Rattle.sweeps.specs.Splits.{splitCloses}
 use Rattle.sweeps.specs.Sweeps.{BranchState, sweepFrame}
 use Rattle.certificate.specs.Written.{stepBytes}
 

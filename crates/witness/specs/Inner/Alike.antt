@@ -4,7 +4,7 @@ use mathlib.Core.List.{List}
 use mathlib.Core.Path.{_≡_}
 use Prim.Native.Nat.{_+_, _<_, ℕ}
 use lib.ListN.{drop, length}
-use Rattle.circuit.specs.ClockLists.{ClockList, latchedBefore, seenAt}
+use Rattle.simulator.specs.ClockLists.{ClockList, latchedBefore, seenAt}
 use Rattle.circuit.specs.Fault.{StuckLines, noneStuck}
 use Rattle.netlist.specs.Netlist.{Net}
 use Rattle.values.specs.Lists.{at}

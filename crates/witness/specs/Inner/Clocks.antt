@@ -5,10 +5,11 @@ use mathlib.Core.List.{List}
 use Prim.Native.Nat.{ℕ}
 use lib.Dec.{eqb}
 use lib.Seq.{sets}
-use Rattle.values.specs.Kind.{isOutput}
-use Rattle.values.specs.Lists.{any, at, rewritten}
-use Rattle.circuit.specs.Inner.Places.{latchedInto, settled}
-use Rattle.circuit.specs.ClockLists.{clockStart}
+use Rattle.gates.specs.Kind.{isOutput}
+use Rattle.values.specs.Lists.{any, at}
+use Rattle.values.specs.Inner.Rewriting.{rewritten}
+use Rattle.simulator.specs.Inner.Places.{latchedInto, settled}
+use Rattle.simulator.specs.ClockLists.{clockStart}
 use Rattle.circuit.specs.Fault.{StuckLines, noneStuck}
 use Rattle.netlist.specs.Netlist.{Net}
 

@@ -42,6 +42,12 @@ add-if3 c = search needs
 add-if4 : tie.Need-add-if4
 add-if4 c = search needs
 
+rem-if5 : tie.Need-rem-if5
+rem-if5 c = search needs
+
+rem-result : tie.Need-rem-result
+rem-result c = search needs
+
 returns-2 : tie.Need-returns-2
 returns-2 c = let bs = now (c .before .before .before .before .before .before .before .before .before .before .args .certificate) in
     let q = pairs-by bs (c .before .before .before .before .run-offset2 .result) (c .before .before .before .before .before .before .before .run-length .result) (c .before .before .before .before .before .run-offset .result) (c .before .before .before .before .before .before .run-length2 .result) (c .before .before .before .before .run-offset2 .ensures) (c .before .before .before .before .before .before .before .run-length .ensures) (c .before .before .before .before .before .run-offset .ensures) (c .before .before .before .before .before .before .run-length2 .ensures) in
@@ -82,6 +88,8 @@ layout-right-spec =
     cast-start
     add-if3
     add-if4
+    rem-if5
+    rem-result
     returns-2
     returns-3
     returns-4

@@ -19,7 +19,7 @@ use Rattle.knowledge.proofs.relation.pin_source.Reads as pin-source-rea
 use Rattle.knowledge.proofs.window.place_of.Reads as place-of-reads
 use Rattle.values.proofs.byte_at.Reads as byte-at-reads
 use Rattle.values.proofs.tail.Reads as tail-reads
-use Rattle.circuit.proofs.gate_value.Reads as gate-value-reads
+use Rattle.simulator.proofs.gate_value.Reads as gate-value-reads
 use Rattle.netlist.proofs.kind_of.Reads as kind-of-reads
 use Rattle.netlist.proofs.node_count.Reads as node-count-reads
 

@@ -4,7 +4,7 @@ use Rattle.knowledge.proofs.relation.has_relation.Statement.{statement}
 use Rattle.knowledge.proofs.relation.has_relation.Tie as tie
 use Rattle.knowledge.proofs.relation.has_relation.Reads as reads
 use Rattle.knowledge.proofs.relation.has_relation.Lts as lts
-use Rattle.values.proofs.is_given.Reads as is-given-reads
+use Rattle.gates.proofs.is_given.Reads as is-given-reads
 
 is-given-requires : tie.Need-is-given-requires
 is-given-requires c κs = search needs

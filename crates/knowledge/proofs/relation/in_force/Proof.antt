@@ -1,5 +1,5 @@
 use mathlib.Core.Path.{_∙_, ap}
-use Rattle.values.proofs.ValueLaws.{known-low, unknown-high}
+use Rattle.gates.proofs.ValueLaws.{known-low, unknown-high}
 use Rattle.netlist.specs.Netlist.{netOf}
 use Rattle.circuit.specs.Fault.{StuckLines}
 use Rattle.knowledge.specs.Window.{held, inForce}

@@ -1,11 +1,11 @@
 use mathlib.Core.Bool.{true, false}
-use Rattle.values.specs.Value.{neg}
-use Rattle.values.specs.declared.kind.Rule.{Rule}
+use Rattle.gates.specs.Value.{neg}
+use Rattle.gates.specs.declared.kind.Rule.{Rule}
 use Rattle.knowledge.proofs.WindowLaws.{tried, against, conclusion-stuck, conclusion-first, conclusion-second, conclusion-none}
 use mathlib.Core.Path.{_≡_, _∙_, ap, sym}
 use denote.Ref.{now}
 use Rattle.netlist.specs.Netlist.{netOf}
-use Rattle.values.specs.Kind.{controlling, ruleOf}
+use Rattle.gates.specs.Kind.{controlling, ruleOf}
 use Rattle.values.specs.Lists.{at}
 use Rattle.circuit.specs.Fault.{linesIn}
 use borrow.Author.Needs.{needs}
@@ -13,12 +13,12 @@ use Rattle.knowledge.proofs.relation.pin_conclusion.Statement.{statemen
 use Rattle.knowledge.proofs.relation.pin_conclusion.Tie as tie
 use Rattle.knowledge.proofs.relation.pin_conclusion.Reads as reads
 use Rattle.knowledge.proofs.relation.pin_conclusion.Lts as lts
-use Rattle.circuit.proofs.gate_assuming.Reads as gate-assuming-reads
+use Rattle.simulator.proofs.gate_assuming.Reads as gate-assuming-reads
 use Rattle.circuit.proofs.stuck_pin.Reads as stuck-pin-reads
-use Rattle.values.proofs.controlling_value.Reads as controlling-value-reads
-use Rattle.values.proofs.negation.Reads as negation-reads
-use Rattle.values.proofs.rule_of.Reads as rule-of-reads
-use Rattle.values.proofs.values_differ.Reads as values-differ-reads
+use Rattle.gates.proofs.controlling_value.Reads as controlling-value-reads
+use Rattle.gates.proofs.negation.Reads as negation-reads
+use Rattle.gates.proofs.rule_of.Reads as rule-of-reads
+use Rattle.gates.proofs.values_differ.Reads as values-differ-reads
 use Rattle.netlist.proofs.kind_of.Reads as kind-of-reads
 
 stuck-pin-requires : tie.Need-stuck-pin-requires

@@ -9,7 +9,7 @@ use Rattle.knowledge.proofs.window.hold_fault.Reads as hold-fault-reads
 use Rattle.knowledge.proofs.window.place_of.Reads as place-of-reads
 use Rattle.values.proofs.byte_at.Reads as byte-at-reads
 use Rattle.values.proofs.store.Reads as store-reads
-use Rattle.values.proofs.values_differ.Reads as values-differ-reads
+use Rattle.gates.proofs.values_differ.Reads as values-differ-reads
 use Rattle.netlist.proofs.node_count.Reads as node-count-reads
 
 node-count-requires : tie.Need-node-count-requires

@@ -1,4 +1,4 @@
-use Rattle.values.proofs.ValueLaws.{known-low, unknown-high}
+use Rattle.gates.proofs.ValueLaws.{known-low, unknown-high}
 use borrow.Author.Needs.{needs}
 use Rattle.knowledge.proofs.window.enter_value.Statement.{statement}
 use Rattle.knowledge.proofs.window.enter_value.Tie as tie

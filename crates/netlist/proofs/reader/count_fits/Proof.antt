@@ -5,7 +5,7 @@ use Rattle.netlist.proofs.reader.count_fits.Statement.{statement}
 use Rattle.netlist.proofs.reader.count_fits.Tie as tie
 use Rattle.netlist.proofs.reader.count_fits.Reads as reads
 use Rattle.netlist.proofs.reader.count_fits.Lts as lts
-use Rattle.values.proofs.rule_of.Reads as rule-of-reads
+use Rattle.gates.proofs.rule_of.Reads as rule-of-reads
 use Rattle.netlist.proofs.reader.kind_of.Reads as kind-of-reads
 use Rattle.netlist.proofs.reader.length_of.Reads as length-of-reads
 

@@ -3,7 +3,6 @@ use mathlib.Core.Bool.{Bool, cond}
 use mathlib.Core.Option.{none, some}
 use mathlib.Core.Path.{_∙_, ap, sym}
 use lib.ListN.{replicate}
-use borrow.Author.Tests.{le-leb, lt-leb}
 use Rattle.search.specs.Inner.Search.{atSplit, searchOutcome}
 use borrow.Author.Needs.{needs}
 use Rattle.search.proofs.answer.search_window.Statement.{statement}
@@ -18,6 +17,9 @@ fill-requires c κs = search needs
 fill-requires-2 : tie.Need-fill-requires-2
 fill-requires-2 c κs = search needs
 
+is-within-requires : tie.Need-is-within-requires
+is-within-requires c κs = search needs
+
 same-length : tie.Need-same-length
 same-length c = search needs
 
@@ -27,9 +29,8 @@ same-length-2 c = search needs
 returns : tie.Need-returns
 returns c =
     let d = c .before .before .before .before .before .before .before .before .before .before .before .before .before .before in
-    let a = d .before .before .before .before .before .before .args in
     let s = d .split-in-window in
-    let e = ap (λ (t : Bool). cond t (some (s .result)) none) (sym (lt-leb (s .result .c) (a .b) (c .if1 .taken))) ∙ s .ensures .0 in
+    let e = ap (λ (t : Bool). cond t (some (s .result)) none) (sym (c .if1 .taken) ∙ c .before .is-within .ensures) ∙ s .ensures .0 in
     let k = c .before .before .before .before .before .before .before .before .fill .ensures ∙ ap (λ (x : ℕ). replicate x 0) (s .kept .1 .1 .1 .1 .1 .0) in
     let m = c .before .before .before .before .fill2 .ensures ∙ ap (λ (x : ℕ). replicate x 0) (s .kept .1 .1 .1 .1 .1 .1 .0) in
     λ i. searchOutcome (atSplit (e i)) (k i) (m i)
@@ -43,9 +44,8 @@ same-length-4 c = search needs
 returns-2 : tie.Need-returns-2
 returns-2 c =
     let d = c .before .before .before .before .before .before .before .before .before .before .before .before .before .before in
-    let a = d .before .before .before .before .before .before .args in
     let s = d .split-in-window in
-    let e = ap (λ (t : Bool). cond t (some (s .result)) none) (sym (le-leb (s .result .c) (a .b) (c .if1 .left))) ∙ s .ensures .0 in
+    let e = ap (λ (t : Bool). cond t (some (s .result)) none) (sym (c .if1 .left) ∙ c .before .is-within .ensures) ∙ s .ensures .0 in
     let k = c .before .before .before .before .before .before .before .before .fill .ensures ∙ ap (λ (x : ℕ). replicate x 0) (s .kept .1 .1 .1 .1 .1 .0) in
     let m = c .before .before .before .before .fill2 .ensures ∙ ap (λ (x : ℕ). replicate x 0) (s .kept .1 .1 .1 .1 .1 .1 .0) in
     λ i. searchOutcome (atSplit (e i)) (k i) (m i)
@@ -57,6 +57,7 @@ search-window-spec =
     split-in-window-requires
     fill-requires
     fill-requires-2
+    is-within-requires
     same-length
     same-length-2
     returns

@@ -9,10 +9,10 @@ use Rattle.search.proofs.branch.decide.Tie as tie
 use Prim.Native.Nat.{ℕ, _+_, _*_, _/_, _<_}
 use mathlib.Core.Path.{_∙_, ap, subst, sym}
 use Rattle.netlist.specs.Netlist.{netOf, pinCount}
-use Rattle.circuit.proofs.ClockLaws.{sound-ordered}
+use Rattle.simulator.proofs.ClockLaws.{sound-ordered}
 use Rattle.search.proofs.NotesLaws.{noted-places, notes-set}
 use Rattle.sweeps.proofs.KeptLaws.{last-kept, trial-says}
-use Rattle.sweeps.specs.Inner.Trials.{notedWith}
+use Rattle.splits.specs.Inner.NoteBytes.{notedWith}
 use Rattle.sweeps.specs.Inner.Work.{KeptOpen}
 
 note-proposed-requires : tie.Need-note-proposed-requires

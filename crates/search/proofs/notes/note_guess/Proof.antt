@@ -1,7 +1,7 @@
 use mathlib.Core.Path.{ap, subst, sym}
 use denote.Ref.{now}
 use Rattle.netlist.specs.Netlist.{netOf, pinCount}
-use Rattle.circuit.proofs.ClockLaws.{sound-ordered}
+use Rattle.simulator.proofs.ClockLaws.{sound-ordered}
 use Rattle.search.proofs.NotesLaws.{notes-open}
 use Rattle.search.specs.Inner.Notes.{NotedStayOpen}
 use Rattle.sweeps.specs.Inner.Trials.{Noting}

@@ -4,7 +4,7 @@ use native.Mathlib.Omega.{arith}
 use mathlib.Core.Path.{ap, sym}
 use lib.Seq.{length-take-le}
 use denote.Ref.{now}
-use Rattle.netlist.specs.Netlist.{netOf, pinCount}
+use Rattle.netlist.specs.Netlist.{netOf, pinCount, mostNodes}
 use Rattle.netlist.proofs.SoundLaws.{sound-size}
 use Rattle.sweeps.proofs.StandsLaws.{window-few}
 use borrow.Author.Needs.{needs}
@@ -14,7 +14,6 @@ use Rattle.search.proofs.notes.note_window.Reads as reads
 use Rattle.search.proofs.notes.note_window.Lts as lts
 use Rattle.search.proofs.notes.note_guess.Reads as note-guess-reads
 use Rattle.knowledge.specs.Window.{mostFrames}
-use Rattle.netlist.specs.Netlist.{mostNodes}
 
 returns : tie.Need-returns
 returns c = search needs

@@ -3,7 +3,7 @@ use Rattle.witness.proofs.WitnessLaws.{clock-from, drawn-inputs}
 use Rattle.witness.proofs.AlikeLaws.{from-now}
 use Rattle.netlist.specs.Netlist.{netOf, pinCount}
 use Rattle.circuit.specs.Fault.{linesIn, linesOf}
-use Rattle.circuit.proofs.ClockLaws.{sound-ordered}
+use Rattle.simulator.proofs.ClockLaws.{sound-ordered}
 use Prim.Native.Nat.{ℕ, suc, _-_}
 use mathlib.Core.Path.{_≡_, refl, subst, sym, _∙_}
 use lib.ListN.{length}

@@ -4,7 +4,7 @@ use mathlib.Core.Path.{_∙_, _≡_, subst, sym}
 use lib.ListN.{length-replicate, replicate}
 use lib.Seq.{length-take-le}
 use denote.Ref.{now}
-use Rattle.netlist.specs.Netlist.{pinCount, reading, sound}
+use Rattle.netlist.specs.Netlist.{pinCount, reading, sound, mostNodes}
 use Rattle.netlist.proofs.SoundLaws.{facts, sound-size}
 use borrow.Author.Needs.{needs}
 use Rattle.search.proofs.trial.rules_out.Statement.{statement}
@@ -12,7 +12,6 @@ use Rattle.search.proofs.trial.rules_out.Tie as tie
 use Rattle.search.proofs.trial.rules_out.Reads as reads
 use Rattle.search.proofs.trial.rules_out.Lts as lts
 use Rattle.search.proofs.trial.is_seen.Reads as is-seen-reads
-use Rattle.netlist.specs.Netlist.{mostNodes}
 
 slice-relend-prefix-is-seen : tie.Need-slice-relend-prefix-is-seen
 slice-relend-prefix-is-seen c = search needs

@@ -2,7 +2,7 @@ use Rattle.witness.specs.Inner.Alike.{Alike}
 use Rattle.witness.proofs.WitnessLaws.{both-alike, drawn-inputs}
 use Rattle.netlist.specs.Netlist.{netOf, pinCount}
 use Rattle.circuit.specs.Fault.{linesOf}
-use Rattle.circuit.proofs.ClockLaws.{sound-ordered}
+use Rattle.simulator.proofs.ClockLaws.{sound-ordered}
 use Prim.Native.Nat.{_+_, _-_, _≤_}
 use mathlib.Core.Path.{_≡_, refl, sym, _∙_}
 use mathlib.Core.Bool.{false≢true}

@@ -6,7 +6,8 @@ use denote.Ref.{now}
 use lib.ListN.{length}
 use Rattle.values.proofs.ListLaws.{below-more}
 use Rattle.netlist.specs.Netlist.{netOf}
-use Rattle.sweeps.specs.Splits.{split, splitCloses}
+use Rattle.splits.specs.Split.{split}
+use Rattle.sweeps.specs.Splits.{splitCloses}
 use Rattle.search.specs.Inner.Notes.{NotedStayOpen}
 use Rattle.search.proofs.walk.frame_open.Statement.{statement}
 use Rattle.search.proofs.walk.frame_open.Tie as tie

@@ -1,13 +1,17 @@
-use Prim.Native.Nat.{ℕ, _+_, _*_, _≤_, suc}
+use Prim.Native.Nat.{ℕ, _+_, _*_, _<_, _≤_, suc}
 use native.Mathlib.Nat.{mul-le-mul-left}
 use native.Mathlib.Omega.{arith}
-use mathlib.Core.Option.{none}
+use mathlib.Core.Bool.{cond}
+use mathlib.Core.Option.{none, some}
 use mathlib.Core.Path.{_≡_, _∙_, subst, sym}
+use lib.Dec.{leb}
 use borrow.Author.Tests.{lt-leb}
 use denote.Ref.{now}
 use Rattle.netlist.specs.Netlist.{netOf, pinCount}
 use Rattle.netlist.proofs.SoundLaws.{facts}
-use Rattle.search.specs.FirstSplit.{tryWindows}
+use Rattle.search.specs.FirstSplit.{firstSplit, tryWindows}
+use Rattle.splits.specs.Split.{split}
+use Rattle.splits.specs.declared.split.Split.{Split}
 use borrow.Author.Needs.{needs}
 use Rattle.search.proofs.walk.split_in_window.Statement.{statement}
 use Rattle.search.proofs.walk.split_in_window.Tie as tie
@@ -18,6 +22,9 @@ first-window-requires c κs = let a = c .before .before .before .before .before 
     let m : a .n * 1 ≤ a .n * (a .b + a .f + 1) = mul-le-mul-left (a .n) (omega arith) in
     (p .0, (p .1 .0, (p .1 .1 .0, (omega (arith, m, p .1 .1 .1 .0), omega (arith, m, p .1 .1 .1 .1)))))
 
+first-of-requires : tie.Need-first-of-requires
+first-of-requires c κs = search needs
+
 same-length : tie.Need-same-length
 same-length c = search needs
 
@@ -26,20 +33,20 @@ same-length-2 c = search needs
 
 returns : tie.Need-returns
 returns c =
-    let c11 = c .before .before .before .before .before .before .before .before .before .before .before in
-    let a = c11 .args in
+    let c12 = c .before .before .before .before .before .before .before .before .before .before .before .before in
+    let a = c12 .args in
     let s = now (a .netlist) in
     let net = netOf s in
-    let p = c11 .pre in
-    let w = c .before .before .before .before .before .first-window in
-    let above = c .if1 .taken in
-    let end : w .result ≡ suc (a .b) = omega (arith, above, w .ensures .0) in (
-      rw (lt-leb (w .result) (a .b) above) (sym (subst (λ (k : ℕ). tryWindows net (a .fault) (a .f) k ≡ none) end (w .ensures .1))),
-      (
-        omega arith,
-        omega (arith, facts s (a .n) (pinCount s) (p .0) .some-node),
-      ),
-    )
+    let p = c12 .pre in
+    let w = c .before .before .before .before .before .before .first-window in
+    let above = c .before .if1 .taken in
+    let end : w .result ≡ suc (a .b) = omega (arith, above, w .ensures .0) in
+    let none-closes = subst (λ (k : ℕ). tryWindows net (a .fault) (a .f) k ≡ none) end (w .ensures .1) in
+    let ends : cond (leb (w .result) (a .b)) (some (split (w .result) 0 0)) none ≡ firstSplit net (a .fault) (a .b) (a .f) = rw (lt-leb (w .result) (a .b) above) (sym none-closes) in
+    subst
+    (λ (r : Split). (cond (leb (r .c) (a .b)) (some r) none ≡ firstSplit net (a .fault) (a .b) (a .f)) × ((r .frame ≤ r .c + a .f) × (r .node < a .n)))
+    (sym (c .first-of .ensures))
+    (ends, (omega arith, omega (arith, facts s (a .n) (pinCount s) (p .0) .some-node)))
 
 search-from-requires : tie.Need-search-from-requires
 search-from-requires c κs = let p = c .before .before .before .before .before .before .before .before .before .before .before .before .before .pre in
@@ -60,6 +67,7 @@ split-in-window-spec =
     tie.close
     (tie.spec
     first-window-requires
+    first-of-requires
     same-length
     same-length-2
     returns

@@ -1,8 +1,8 @@
 use native.Mathlib.Nat.{mul-le-mul-left}
 use borrow.Author.Tests.{le-leb, lt-leb}
 use Rattle.netlist.proofs.SoundLaws.{facts, sound-size}
-use Rattle.sweeps.specs.declared.split.Split.{Split}
-use Rattle.sweeps.specs.Splits.{nextSplit}
+use Rattle.splits.specs.declared.split.Split.{Split}
+use Rattle.splits.specs.Inner.Next.{nextSplit}
 use native.Mathlib.Omega.{arith}
 use denote.Ref.{now}
 use Prim.Native.Nat.{ℕ, _+_, _*_, _<_, _≤_}
@@ -23,18 +23,23 @@ Inv-loop netlist n fault from b f known₀ marks₀ noted₀ fan trail₀ split�
 abbrev μ-loop : tie.MeasureT-loop
 μ-loop netlist n fault from b f known₀ marks₀ noted₀ fan trail₀ split₀ known marks noted trail split = left b split
 
+first-of-requires : tie.Need-first-of-requires Inv-loop μ-loop
+first-of-requires c κs = search needs
+
 loop-holds : tie.Need-loop-holds Inv-loop μ-loop
-loop-holds c = let a = c .before .before .before .before .before .before .args in
+loop-holds c =
+    let a = c .before .before .before .before .before .before .before .args in
     let s = now (a .netlist) in
     let net = netOf s in
-    let p = c .before .before .before .before .before .before .pre in
+    let p = c .before .before .before .before .before .before .before .pre in
     let ne : a .n ≡ net .size = sound-size s (a .n) (pinCount s) (p .0) in
     let z : 0 < net .size = omega (arith, facts s (a .n) (pinCount s) (p .0) .some-node) in
     let w = p .1 .1 .1 .1 .1 in
-    (reached-window net (a .fault) (a .f) (a .b) (a .from) (w .0) z (w .1), p .1 .1 .1 .0 .0, p .1 .1 .1 .0 .1, refl, p .1 .1 .1 .1 .0, refl)
+    let reached = subst (Reached net (a .fault) (a .f) (a .b)) (sym (c .first-of .ensures)) (reached-window net (a .fault) (a .f) (a .b) (a .from) (w .0) z (w .1)) in
+    (reached, p .1 .1 .1 .0 .0, p .1 .1 .1 .0 .1, refl, p .1 .1 .1 .1 .0, refl)
 
 note-window-requires : tie.Need-note-window-requires Inv-loop μ-loop
-note-window-requires c κs = let p = c .before .before .before .before .before .before .before .before .before .before .before .before .pre in
+note-window-requires c κs = let p = c .before .before .before .before .before .before .before .before .before .before .before .before .before .pre in
     let l = c .before .before .before .before .before .loop in
     (p .0, (p .1 .0, ((p .1 .1 .0, c .before .before .before .if1 .taken), ((l .inv .1, l .inv .2), l .inv .4))))
 
@@ -42,11 +47,11 @@ closes-requires : tie.Need-closes-requires Inv-loop μ-loop
 closes-requires c κs =
     let c10 = c .before .before .before .before .before .before .before .before .before .before in
     let c16 = c10 .before .before .before .before .before .before in
-    let c23 = c16 .before .before .before .before .before .before .before in
-    let a = c23 .args in
+    let c24 = c16 .before .before .before .before .before .before .before .before in
+    let a = c24 .args in
     let s = now (a .netlist) in
     let net = netOf s in
-    let p = c23 .pre in
+    let p = c24 .pre in
     let ne : a .n ≡ net .size = sound-size s (a .n) (pinCount s) (p .0) in
     let l = c16 .loop in
     let w = c10 .note-window in
@@ -67,16 +72,16 @@ same-length c =
     let c9 = c .before .before .before .before .before .before .before .before .before in
     let c20 = c9 .before .before .before .before .before .before .before .before .before .before .before in
     let c26 = c20 .before .before .before .before .before .before in
-    let c33 = c26 .before .before .before .before .before .before .before in
-    c9 .closes .kept .1 .1 .1 .1 .1 .0 ∙ c20 .note-window .kept .1 .1 .1 .1 .1 .1 .0 ∙ c26 .loop .inv .1 ∙ sym (c33 .pre .1 .1 .1 .0 .0)
+    let c34 = c26 .before .before .before .before .before .before .before .before in
+    c9 .closes .kept .1 .1 .1 .1 .1 .0 ∙ c20 .note-window .kept .1 .1 .1 .1 .1 .1 .0 ∙ c26 .loop .inv .1 ∙ sym (c34 .pre .1 .1 .1 .0 .0)
 
 same-length-2 : tie.Need-same-length-2 Inv-loop μ-loop
 same-length-2 c =
     let c9 = c .before .before .before .before .before .before .before .before .before in
     let c20 = c9 .before .before .before .before .before .before .before .before .before .before .before in
     let c26 = c20 .before .before .before .before .before .before in
-    let c33 = c26 .before .before .before .before .before .before .before in
-    c9 .closes .kept .1 .1 .1 .1 .1 .1 .0 ∙ c20 .note-window .kept .1 .1 .1 .1 .1 .1 .1 .0 ∙ c26 .loop .inv .2 ∙ sym (c33 .pre .1 .1 .1 .0 .1)
+    let c34 = c26 .before .before .before .before .before .before .before .before in
+    c9 .closes .kept .1 .1 .1 .1 .1 .1 .0 ∙ c20 .note-window .kept .1 .1 .1 .1 .1 .1 .1 .0 ∙ c26 .loop .inv .2 ∙ sym (c34 .pre .1 .1 .1 .0 .1)
 
 same-length-3 : tie.Need-same-length-3 Inv-loop μ-loop
 same-length-3 c =
@@ -98,11 +103,11 @@ returns c =
     let c21 = c9 .before .before .before .before .before .before .before .before .before .before .before .before in
     let c24 = c21 .before .before .before in
     let c26 = c24 .before .before in
-    let c33 = c26 .before .before .before .before .before .before .before in
-    let a = c33 .args in
+    let c34 = c26 .before .before .before .before .before .before .before .before in
+    let a = c34 .args in
     let s = now (a .netlist) in
     let net = netOf s in
-    let p = c33 .pre in
+    let p = c34 .pre in
     let ne : a .n ≡ net .size = sound-size s (a .n) (pinCount s) (p .0) in
     let l = c26 .loop in
     let low = c24 .if1 .taken in
@@ -119,11 +124,11 @@ loop-less c =
     let c24 = c12 .before .before .before .before .before .before .before .before .before .before .before .before in
     let c25 = c24 .before in
     let c27 = c25 .before .before in
-    let c34 = c27 .before .before .before .before .before .before .before in
-    let a = c34 .args in
+    let c35 = c27 .before .before .before .before .before .before .before .before in
+    let a = c35 .args in
     let s = now (a .netlist) in
     let net = netOf s in
-    let p = c34 .pre in
+    let p = c35 .pre in
     let ne : a .n ≡ net .size = sound-size s (a .n) (pinCount s) (p .0) in
     let l = c27 .loop in
     let q : left (a .b) (nextSplit (a .n) (a .f) (l .split)) < left (a .b) (l .split) = left-less (a .n) (a .f) (a .b) (l .split) (omega (
@@ -138,11 +143,11 @@ loop-again c =
     let c21 = c10 .before .before .before .before .before .before .before .before .before .before .before in
     let c25 = c21 .before .before .before .before in
     let c27 = c25 .before .before in
-    let c34 = c27 .before .before .before .before .before .before .before in
-    let a = c34 .args in
+    let c35 = c27 .before .before .before .before .before .before .before .before in
+    let a = c35 .args in
     let s = now (a .netlist) in
     let net = netOf s in
-    let p = c34 .pre in
+    let p = c35 .pre in
     let ne : a .n ≡ net .size = sound-size s (a .n) (pinCount s) (p .0) in
     let l = c27 .loop in
     let z = c10 .closes in
@@ -159,10 +164,10 @@ loop-again c =
     )
 
 same-length-5 : tie.Need-same-length-5 Inv-loop μ-loop
-same-length-5 c = c .before .before .loop .inv .1 ∙ sym (c .before .before .before .before .before .before .before .before .before .pre .1 .1 .1 .0 .0)
+same-length-5 c = c .before .before .loop .inv .1 ∙ sym (c .before .before .before .before .before .before .before .before .before .before .pre .1 .1 .1 .0 .0)
 
 same-length-6 : tie.Need-same-length-6 Inv-loop μ-loop
-same-length-6 c = c .before .before .loop .inv .2 ∙ sym (c .before .before .before .before .before .before .before .before .before .pre .1 .1 .1 .0 .1)
+same-length-6 c = c .before .before .loop .inv .2 ∙ sym (c .before .before .before .before .before .before .before .before .before .before .pre .1 .1 .1 .0 .1)
 
 same-length-7 : tie.Need-same-length-7 Inv-loop μ-loop
 same-length-7 c = c .before .before .loop .inv .3
@@ -171,10 +176,10 @@ same-length-8 : tie.Need-same-length-8 Inv-loop μ-loop
 same-length-8 c = c .before .before .loop .inv .5
 
 returns-2 : tie.Need-returns-2 Inv-loop μ-loop
-returns-2 c = let a = c .before .before .before .before .before .before .before .before .before .args in
+returns-2 c = let a = c .before .before .before .before .before .before .before .before .before .before .args in
     let s = now (a .netlist) in
     let net = netOf s in
-    let p = c .before .before .before .before .before .before .before .before .before .pre in
+    let p = c .before .before .before .before .before .before .before .before .before .before .pre in
     let ne : a .n ≡ net .size = sound-size s (a .n) (pinCount s) (p .0) in
     let l = c .before .before .loop in
     (rw (lt-leb (l .split .c) (a .b) (c .if1 .left)) (sym (reached-end net (a .fault) (a .f) (a .b) (l .split) (l .inv .0) (c .if1 .left))), (l .inv .0 .frame-within, omega arith))
@@ -185,6 +190,7 @@ walk-splits-spec =
     (tie.spec
     Inv-loop
     μ-loop
+    first-of-requires
     loop-holds
     note-window-requires
     closes-requires

@@ -1,19 +1,31 @@
 use native.Mathlib.Omega.{arith}
 use mathlib.Core.Bool.{false≢true}
+use mathlib.Core.Path.{_∙_, ap}
 use borrow.Author.Needs.{needs}
+use Rattle.splits.specs.declared.split.Split.{Split}
 use Rattle.search.proofs.walk.window_open.Statement.{statement}
 use Rattle.search.proofs.walk.window_open.Tie as tie
 
 asks-first-requires : tie.Need-asks-first-requires
 asks-first-requires c κs = search needs
 
+first-of-requires : tie.Need-first-of-requires
+first-of-requires c κs = search needs
+
 note-window-requires : tie.Need-note-window-requires
 note-window-requires c κs =
-    (search needs, (search needs, ((search needs, omega arith), ((search needs, search needs), search needs))))
+    let first = ap (λ (x : Split). x .c) (c .before .before .before .first-of .ensures) in
+    (search needs, (search needs, ((search needs, omega (arith, first)), ((search needs, search needs), search needs))))
 
 frames-open-requires : tie.Need-frames-open-requires
 frames-open-requires c κs =
-    (search needs, (search needs, (search needs, ((omega arith, omega arith), search needs))))
+    let c10 = c .before .before .before .before .before .before .before .before .before .before in
+    let c24 = c10 .before .before .before .before .before .before .before .before .before .before .before .before .before .before in
+    let w = c10 .note-window in
+    let p = c24 .pre in
+    let values = w .kept .1 .1 .1 .1 .1 .1 .0 ∙ p .1 .1 .1 .0 .0 in
+    let marks = w .kept .1 .1 .1 .1 .1 .1 .1 .0 ∙ p .1 .1 .1 .0 .1 in
+    (search needs, (search needs, (search needs, ((values, marks), search needs))))
 
 same-length : tie.Need-same-length
 same-length c = search needs
@@ -41,6 +53,7 @@ window-open-spec =
     tie.close
     (tie.spec
     asks-first-requires
+    first-of-requires
     note-window-requires
     frames-open-requires
     same-length

@@ -8,7 +8,7 @@ use denote.Ref.{now}
 use Rattle.netlist.specs.Netlist.{netOf, pinCount}
 use Rattle.circuit.specs.Fault.{linesOf}
 use Rattle.netlist.proofs.SoundLaws.{sound-size}
-use Rattle.circuit.proofs.ClockLaws.{sound-ordered}
+use Rattle.simulator.proofs.ClockLaws.{sound-ordered}
 use Rattle.trace.proofs.TraceAgreement.{dies-agree}
 use Rattle.trace.proofs.MarkLaws.{tracing-long}
 use Rattle.trace.specs.Inner.Tracing.{Traced}

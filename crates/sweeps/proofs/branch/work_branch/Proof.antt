@@ -3,13 +3,13 @@ use native.Mathlib.Numerals.{add-one}
 use native.Mathlib.Omega.{arith}
 use mathlib.Core.Path.{_≡_, _∙_, ap, subst, sym}
 use denote.Ref.{now}
-use Rattle.netlist.specs.Netlist.{netOf, pinCount}
+use Rattle.netlist.specs.Netlist.{netOf, pinCount, mostNodes}
 use Rattle.circuit.specs.Fault.{linesOf}
 use Rattle.netlist.proofs.SoundLaws.{sound-size}
-use Rattle.circuit.proofs.ClockLaws.{sound-ordered}
+use Rattle.simulator.proofs.ClockLaws.{sound-ordered}
 use Rattle.knowledge.proofs.HoldLaws.{fault-says}
 use Rattle.knowledge.specs.Inner.Slice.{beginIn}
-use Rattle.knowledge.specs.Window.{presentBelow}
+use Rattle.knowledge.specs.Window.{presentBelow, mostFrames}
 use Rattle.sweeps.specs.Splits.{branchOf}
 use Rattle.sweeps.specs.Sweeps.{sweeps, implied}
 use Rattle.sweeps.specs.Inner.Work.{Work, inBytes, tally, work}
@@ -22,8 +22,6 @@ use Rattle.sweeps.proofs.branch.work_branch.Reads as reads
 use Rattle.sweeps.proofs.branch.work_branch.Lts as lts
 use Rattle.knowledge.proofs.begin_branch.Reads as begin-branch-reads
 use Rattle.sweeps.proofs.sweep.sweep_to_end.Reads as sweep-to-end-reads
-use Rattle.knowledge.specs.Window.{mostFrames}
-use Rattle.netlist.specs.Netlist.{mostNodes}
 
 add-w : tie.Need-add-w
 add-w c = search needs

@@ -9,7 +9,7 @@ use Rattle.sweeps.proofs.notes.note_open.Statement.{statement}
 use Rattle.sweeps.proofs.notes.note_open.Tie as tie
 use Rattle.sweeps.proofs.notes.note_open.Reads as reads
 use Rattle.sweeps.proofs.notes.note_open.Lts as lts
-use Rattle.sweeps.proofs.notes.note_known.Reads as note-known-reads
+use Rattle.splits.proofs.note_known.Reads as note-known-reads
 use Rattle.sweeps.proofs.open.is_open_set.Reads as is-open-set-reads
 
 is-open-set-requires : tie.Need-is-open-set-requires

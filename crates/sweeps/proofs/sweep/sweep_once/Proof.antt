@@ -1,91 +1,39 @@
-use Prim.Native.Nat.{ℕ, _-_, _≤_}
 use native.Mathlib.Omega.{arith}
-use mathlib.Core.Path.{_≡_, _∙_, ap, refl, sym}
-use lib.ListN.{length}
 use denote.Ref.{now}
+use borrow.Author.Needs.{needs}
 use Rattle.netlist.specs.Netlist.{netOf}
 use Rattle.circuit.specs.Fault.{linesOf}
 use Rattle.knowledge.specs.Window.{presentBelow}
-use Rattle.sweeps.specs.Inner.Work.{inBytes, tally, work}
-use Rattle.sweeps.specs.Sweeps.{rising, sweep, sweepFrame}
-use Rattle.sweeps.proofs.RisingLaws.{rising-more}
-use Rattle.sweeps.proofs.WorkLaws.{frames-tally}
+use Rattle.sweeps.specs.Inner.Work.{work}
+use Rattle.sweeps.proofs.CalmLaws.{calm-none}
 use Rattle.sweeps.proofs.sweep.sweep_once.Statement.{statement}
 use Rattle.sweeps.proofs.sweep.sweep_once.Tie as tie
 use Rattle.sweeps.proofs.sweep.sweep_once.Reads as reads
 use Rattle.sweeps.proofs.sweep.sweep_once.Lts as lts
-use Rattle.sweeps.proofs.sweep.sweep_frame.Reads as sweep-frame-reads
+use Rattle.sweeps.proofs.sweep.sweep_window.Reads as sweep-window-reads
 
-abbrev Inv-loop : tie.InvT-loop
-Inv-loop netlist n w fault c known₀ run₀ done₀ frame₀ known run done frame =
-    (frame ≤ w)
-    × (length known ≡ length known₀)
-    × (length run ≡ length run₀)
-    × (work known run (done .steps) (done .closed) ≡ rising (sweepFrame (inBytes (netOf netlist .size)) (netOf netlist) (presentBelow c (linesOf fault))) frame (work known₀ run₀ (done₀ .steps) (done₀ .closed)))
+slice-aggregate-sweep-window : tie.Need-slice-aggregate-sweep-window
+slice-aggregate-sweep-window c = search needs
 
-abbrev μ-loop : tie.MeasureT-loop
-μ-loop netlist n w fault c known₀ run₀ done₀ frame₀ known run done frame = w - frame
-
-loop-holds : tie.Need-loop-holds Inv-loop μ-loop
-unfolding rising
-loop-holds c = (omega arith, refl, refl, refl)
-
-sweep-frame-requires : tie.Need-sweep-frame-requires Inv-loop μ-loop
-sweep-frame-requires c κs = let a = c .before .before .before .before .before .before .before .args in
-    let net = netOf (now (a .netlist)) in
+-- there is no byte for a calm frame
+sweep-window-requires : tie.Need-sweep-window-requires
+sweep-window-requires c κs =
+    let a = c .before .before .before .before .before .before .args in
+    let pre = c .before .before .before .before .before .before .pre in
     let S = presentBelow (a .c) (linesOf (a .fault)) in
     let w = work (now (a .known)) (now (a .run)) (a .progress .steps) (a .progress .closed) in
-    let l = c .before .before .before .loop in
-    let e : tally (work (l .known) (l .run) (l .done .steps) (l .done .closed)) ≡ tally w = ap tally (l .inv .3) ∙ frames-tally net S (l .frame) w in
-    (c .before .before .before .before .before .before .before .pre .0, omega (arith, e, c .before .before .before .before .before .before .before .pre .1))
+    (pre .0, (pre .1, (λ h. absurd (omega (arith, h)), calm-none (netOf (now (a .netlist))) S 0 w)))
 
-add-frame : tie.Need-add-frame Inv-loop μ-loop
-add-frame c = omega arith
+same-length : tie.Need-same-length
+same-length c = search needs
 
-loop-less : tie.Need-loop-less Inv-loop μ-loop
-loop-less c = omega arith
+same-length-2 : tie.Need-same-length-2
+same-length-2 c = search needs
 
-loop-again : tie.Need-loop-again Inv-loop μ-loop
-loop-again c = let a = c .before .before .before .before .before .before .before .before .before .before .before .before .args in
-    let net = netOf (now (a .netlist)) in
-    let S = presentBelow (a .c) (linesOf (a .fault)) in
-    let w = work (now (a .known)) (now (a .run)) (a .progress .steps) (a .progress .closed) in
-    let l = c .before .before .before .before .before .before .before .before .loop in
-    let d = c .before .before .before .before .sweep-frame in
-    let f = sweepFrame (inBytes (net .size)) net S in (
-      omega (arith, c .before .before .before .before .before .before .before .loop-test .taken),
-      d .kept .1 .1 .1 .1 .1 .0 ∙ l .inv .1,
-      d .kept .1 .1 .1 .1 .1 .1 .0 ∙ l .inv .2,
-      d .ensures ∙ ap (f (l .frame)) (l .inv .3) ∙ sym (rising-more f (l .frame) w),
-    )
-
-same-length : tie.Need-same-length Inv-loop μ-loop
-same-length c = c .before .loop .inv .1
-
-same-length-2 : tie.Need-same-length-2 Inv-loop μ-loop
-same-length-2 c = c .before .loop .inv .2
-
-returns : tie.Need-returns Inv-loop μ-loop
-unfolding sweep
-returns c = let a = c .before .before .before .before .before .args in
-    let net = netOf (now (a .netlist)) in
-    let S = presentBelow (a .c) (linesOf (a .fault)) in
-    let w = work (now (a .known)) (now (a .run)) (a .progress .steps) (a .progress .closed) in
-    let l = c .before .loop in
-    let m : l .frame ≡ a .w = omega (arith, l .inv .0, c .loop-test .left) in
-    l .inv .3 ∙ ap (λ (k : ℕ). rising (sweepFrame (inBytes (net .size)) net S) k w) m
+returns : tie.Need-returns
+returns c = c .before .before .before .before .before .sweep-window .ensures .0
 
 pub sweep-once-spec : {M : Type 1} → statement M
 sweep-once-spec =
     tie.close
-    (tie.spec
-    Inv-loop
-    μ-loop
-    loop-holds
-    sweep-frame-requires
-    add-frame
-    loop-less
-    loop-again
-    same-length
-    same-length-2
-    returns)
+    (tie.spec slice-aggregate-sweep-window sweep-window-requires same-length same-length-2 returns)

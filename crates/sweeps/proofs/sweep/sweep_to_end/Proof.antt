@@ -4,9 +4,10 @@ use native.Mathlib.Omega.{arith}
 use mathlib.Core.Path.{_≡_, _∙_, ap, refl, sym}
 use lib.ListN.{length}
 use denote.Ref.{now}
-use Rattle.netlist.specs.Netlist.{netOf}
+use Rattle.netlist.specs.Netlist.{netOf, pinCount}
+use Rattle.netlist.proofs.SoundLaws.{sound-size}
 use Rattle.circuit.specs.Fault.{linesOf}
-use Rattle.knowledge.specs.Window.{presentBelow}
+use Rattle.knowledge.specs.Window.{presentBelow, mostFrames}
 use Rattle.sweeps.specs.Sweeps.{sweeps}
 use Rattle.sweeps.specs.Inner.Work.{CalmFrames, inBytes, tally, work}
 use Rattle.sweeps.proofs.WorkLaws.{ends-closed, ends-still, goes-on, sweep-tally}
@@ -16,7 +17,6 @@ use Rattle.sweeps.proofs.sweep.sweep_to_end.Tie as tie
 use Rattle.sweeps.proofs.sweep.sweep_to_end.Reads as reads
 use Rattle.sweeps.proofs.sweep.sweep_to_end.Lts as lts
 use Rattle.sweeps.proofs.sweep.sweep_window.Reads as sweep-window-reads
-use Rattle.knowledge.specs.Window.{mostFrames}
 
 abbrev Inv-loop : tie.InvT-loop
 Inv-loop netlist n w fault c known₀ run₀ done₀ calm₀ most made₀ known run done calm made =
@@ -55,7 +55,10 @@ slice-aggregate-sweep-window c = sym (c .before .before .loop .inv .5)
 
 sweep-window-requires : tie.Need-sweep-window-requires Inv-loop μ-loop
 sweep-window-requires c κs = let l = c .before .before .before .before .loop in
-    (c .before .before .before .before .before .before .before .before .pre .0, (omega (arith, l .inv .3, c .before .before .before .before .before .before .before .before .pre .1), l .inv .6))
+    let a = c .before .before .before .before .before .before .before .before .args in
+    let pre = c .before .before .before .before .before .before .before .before .pre in
+    let s = now (a .netlist) in
+    (sound-size s (a .n) (pinCount s) (pre .0), (omega (arith, l .inv .3, pre .1), (λ _. pre .0, l .inv .6)))
 
 same-length : tie.Need-same-length Inv-loop μ-loop
 same-length c = c .before .before .before .before .before .before .sweep-window .kept .1 .1 .1 .1 .1 .1 .0 ∙ c .before .before .before .before .before .before .before .before .before .before .before .loop .inv .1

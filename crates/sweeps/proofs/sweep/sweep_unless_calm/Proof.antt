@@ -8,11 +8,10 @@ use borrow.Author.Needs.{needs}
 use Rattle.values.specs.Lists.{at}
 use Rattle.netlist.specs.Netlist.{netOf, pinCount}
 use Rattle.circuit.specs.Fault.{linesOf}
-use Rattle.netlist.proofs.SoundLaws.{sound-size}
-use Rattle.circuit.proofs.ClockLaws.{sound-ordered}
+use Rattle.simulator.proofs.ClockLaws.{sound-ordered}
 use Rattle.knowledge.specs.Window.{presentBelow}
 use Rattle.sweeps.specs.Inner.Work.{CalmFrames, Work, frameNoted, work}
-use Rattle.sweeps.proofs.CalmLaws.{calm-noted}
+use Rattle.sweeps.proofs.CalmLaws.{calm-noted-where}
 use Rattle.sweeps.proofs.sweep.sweep_unless_calm.Statement.{statement}
 use Rattle.sweeps.proofs.sweep.sweep_unless_calm.Tie as tie
 use Rattle.sweeps.proofs.sweep.sweep_unless_calm.Reads as reads
@@ -30,14 +29,14 @@ same-length c = search needs
 returns : tie.Need-returns
 unfolding CalmFrames
 returns c = let a = c .before .before .before .before .before .before .before .args in
-    let calm = c .before .before .before .before .before .before .before .pre .1 .1 in
+    let calm = c .before .before .before .before .before .before .before .pre .1 .1 .1 in
     let h : 0 < at (now (a .calm)) (a .frame) = omega (arith, c .if1 .taken, c .before .byte-at .ensures) in
     (sym (calm (a .frame) h), calm)
 
 sweep-frame-requires : tie.Need-sweep-frame-requires
-sweep-frame-requires c κs = let a = c .before .before .before .before .before .before .before .before .before .args in
-    let s = now (a .netlist) in
-    (sound-size s (a .n) (pinCount s) (c .before .before .before .before .before .before .before .before .before .pre .0), c .before .before .before .before .before .before .before .before .before .pre .1 .0)
+sweep-frame-requires c κs =
+    let pre = c .before .before .before .before .before .before .before .before .before .pre in
+    (pre .0, pre .1 .0)
 
 note-frame-requires : tie.Need-note-frame-requires
 note-frame-requires c κs = search needs
@@ -57,11 +56,10 @@ returns-2 c = let a = c .before .before .before .before .before .before .before 
     let s = now (a .netlist) in
     let net = netOf s in
     let S = presentBelow (a .c) (linesOf (a .fault)) in
-    let o = sound-ordered s (a .n) (pinCount s) (pre .0) in
     let w = work (now (a .known)) (now (a .run)) (a .progress .steps) (a .progress .closed) in
     let d = c .before .before .before .before .before .before .before .before .before .sweep-frame in
     let x = work (d .last .1 .1 .1 .1 .1 .0) (d .last .1 .1 .1 .1 .1 .1 .0) (d .result .steps) (d .result .closed) in
-    let noted = subst (λ (y : Work). CalmFrames net S (frameNoted (now (a .calm)) (a .frame) (eqb (y .steps) (w .steps))) y) (sym (d .ensures)) (calm-noted net o S (a .frame) w (now (a .calm)) (pre .1 .1)) in
+    let noted = subst (λ (y : Work). CalmFrames net S (frameNoted (now (a .calm)) (a .frame) (eqb (y .steps) (w .steps))) y) (sym (d .ensures)) (calm-noted-where net S (a .frame) w (now (a .calm)) (λ h. sound-ordered s (a .n) (pinCount s) (pre .1 .1 .0 h)) (pre .1 .1 .1)) in
     (d .ensures, subst (λ (l : List ℕ). CalmFrames net S l x) (sym (c .before .before .note-frame .ensures)) noted)
 
 pub sweep-unless-calm-spec : {M : Type 1} → statement M

@@ -30,7 +30,7 @@ abbrev μ-loop : tie.MeasureT-loop
 
 loop-holds : tie.Need-loop-holds Inv-loop μ-loop
 unfolding rising
-loop-holds c = (omega arith, refl, refl, refl, refl, c .before .before .before .before .pre .1 .1)
+loop-holds c = (omega arith, refl, refl, refl, refl, c .before .before .before .before .pre .1 .1 .1)
 
 sweep-unless-calm-requires : tie.Need-sweep-unless-calm-requires Inv-loop μ-loop
 sweep-unless-calm-requires c κs = let a = c .before .before .before .before .before .before .before .before .before .args in
@@ -39,7 +39,8 @@ sweep-unless-calm-requires c κs = let a = c .before .before .before .before .be
     let w = work (now (a .known)) (now (a .run)) (a .progress .steps) (a .progress .closed) in
     let l = c .before .before .before .before .loop in
     let e : tally (work (l .known) (l .run) (l .done .steps) (l .done .closed)) ≡ tally w = ap tally (l .inv .4) ∙ frames-tally net S (l .frame) w in
-    (c .before .before .before .before .before .before .before .before .before .pre .0, (omega (arith, e, c .before .before .before .before .before .before .before .before .before .pre .1 .0), l .inv .5))
+    let pre = c .before .before .before .before .before .before .before .before .before .pre in
+    (pre .0, (omega (arith, e, pre .1 .0), (λ h. pre .1 .1 .0 (omega (arith, h, l .inv .1)), l .inv .5)))
 
 add-frame : tie.Need-add-frame Inv-loop μ-loop
 add-frame c = omega arith

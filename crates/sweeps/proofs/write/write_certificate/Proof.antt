@@ -4,7 +4,7 @@ use mathlib.Core.Path.{_∙_, ap, sym}
 use lib.ListN.{replicate}
 use borrow.Author.Tests.{lt-leb, not-false, not-true}
 use denote.Ref.{now}
-use Rattle.netlist.specs.Netlist.{netOf, pinCount, sound}
+use Rattle.netlist.specs.Netlist.{netOf, pinCount, sound, mostNodes}
 use Rattle.sweeps.specs.Inner.Trials.{certifying}
 use Rattle.sweeps.proofs.StandsLaws.{window-few}
 use Rattle.sweeps.proofs.TrialLaws.{certified-same, certifying-stands, stands}
@@ -18,7 +18,6 @@ use Rattle.sweeps.proofs.write.write_branches.Reads as write-branches-r
 use Rattle.sweeps.proofs.window.window_stands.Reads as window-stands-reads
 use Rattle.values.proofs.fill.Reads as fill-reads
 use Rattle.knowledge.specs.Window.{mostFrames}
-use Rattle.netlist.specs.Netlist.{mostNodes}
 
 window-stands-requires : tie.Need-window-stands-requires
 window-stands-requires c κs = search needs

@@ -1,5 +1,5 @@
 use borrow.Author.Tests.{not-true, not-false}
-use Rattle.values.specs.Value.{isUnknown}
+use Rattle.gates.specs.Value.{isUnknown}
 use Rattle.trace.specs.Trace.{mark}
 use Rattle.trace.proofs.MarkLaws.{gate-touched, gate-untouched, mark-known, mark-unknown}
 use Prim.Native.Nat.{ℕ}

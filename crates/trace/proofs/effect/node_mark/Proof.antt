@@ -1,5 +1,5 @@
 use borrow.Author.Tests.{ne-eqb}
-use Rattle.values.specs.Kind.{isGiven}
+use Rattle.gates.specs.Kind.{isGiven}
 use Rattle.trace.proofs.MarkLaws.{mark-flip-flop, mark-gate, mark-input}
 use mathlib.Core.Path.{_≡_, _∙_, sym, ap}
 use lib.ListN.{take}
@@ -16,7 +16,7 @@ use Rattle.trace.proofs.effect.gate_mark.Reads as gate-mark-reads
 use Rattle.trace.proofs.effect.site_mark.Reads as site-mark-reads
 use Rattle.values.proofs.byte_at.Reads as byte-at-reads
 use Rattle.circuit.proofs.stuck_node.Reads as stuck-node-reads
-use Rattle.values.proofs.is_given.Reads as is-given-reads
+use Rattle.gates.proofs.is_given.Reads as is-given-reads
 use Rattle.netlist.proofs.kind_of.Reads as kind-of-reads
 
 stuck-node-requires : tie.Need-stuck-node-requires

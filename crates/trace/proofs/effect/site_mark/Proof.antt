@@ -1,5 +1,5 @@
 use borrow.Author.Tests.{eq-eqb, ne-eqb}
-use Rattle.values.proofs.ValueLaws.{known-low, unknown-high}
+use Rattle.gates.proofs.ValueLaws.{known-low, unknown-high}
 use Rattle.trace.proofs.effect.site_mark.Statement.{statement}
 use Rattle.trace.proofs.effect.site_mark.Tie as tie
 use Rattle.trace.proofs.effect.site_mark.Reads as reads

@@ -10,7 +10,7 @@ use denote.Ref.{now}
 use Rattle.netlist.specs.Netlist.{lengthOf, netOf}
 use Rattle.values.specs.Lists.{at, indexed}
 use Rattle.circuit.specs.Fault.{linesIn}
-use Rattle.circuit.proofs.PinLaws.{length-by-pin, by-pin-at}
+use Rattle.simulator.proofs.PinLaws.{length-by-pin, by-pin-at}
 use Rattle.trace.proofs.effect.some_pin_touched.Statement.{statement}
 use Rattle.trace.proofs.effect.some_pin_touched.Tie as tie
 use Rattle.trace.proofs.effect.some_pin_touched.Reads as reads

@@ -1,6 +1,6 @@
 use Rattle.trace.specs.Trace.{pinMark, untouchedValue}
-use Rattle.values.specs.Kind.{functionOf, gate}
-use Rattle.circuit.proofs.PinLaws.{function-none, function-more, length-by-pin, by-pin-at}
+use Rattle.gates.specs.Kind.{functionOf, gate}
+use Rattle.simulator.proofs.PinLaws.{function-none, function-more, length-by-pin, by-pin-at}
 use borrow.Author.Needs.{needs}
 use Prim.Native.Nat.{ℕ, _≤_, _<_, _-_}
 use native.Mathlib.Omega.{arith}
@@ -15,10 +15,10 @@ use Rattle.trace.proofs.effect.untouched_gate.Tie as tie
 use Rattle.trace.proofs.effect.untouched_gate.Reads as reads
 use Rattle.trace.proofs.effect.untouched_gate.Lts as lts
 use Rattle.trace.proofs.effect.untouched_value.Reads as untouched-value-reads
-use Rattle.values.proofs.inverted_if.Reads as inverted-if-reads
-use Rattle.values.proofs.join_of.Reads as join-of-reads
-use Rattle.values.proofs.rule_of.Reads as rule-of-reads
-use Rattle.values.proofs.unit_of.Reads as unit-of-reads
+use Rattle.gates.proofs.inverted_if.Reads as inverted-if-reads
+use Rattle.gates.proofs.join_of.Reads as join-of-reads
+use Rattle.gates.proofs.rule_of.Reads as rule-of-reads
+use Rattle.gates.proofs.unit_of.Reads as unit-of-reads
 use Rattle.netlist.proofs.kind_of.Reads as kind-of-reads
 use Rattle.netlist.proofs.length_of.Reads as length-of-reads
 

@@ -1,8 +1,9 @@
 use Rattle.values.specs.Lists.{bytes₂}
 use Rattle.values.proofs.SetsLaws.{sets-past}
-use mathlib.Core.Path.{_≡_}
+use mathlib.Core.Path.{_∙_, _≡_}
 use native.Mathlib.Omega.{arith}
-use Prim.Native.Nat.{suc, _+_}
+use Prim.Native.Nat.{suc, _+_, _/_}
+use lib.ListN.{set}
 use denote.Ref.{now}
 use borrow.Author.Needs.{needs}
 use Rattle.values.proofs.bytes.put_u16.Statement.{statement}
@@ -32,9 +33,9 @@ same-length c = search needs
 
 returns-2 : tie.Need-returns-2
 returns-2 c =
-    let place = c .before .before .before .before .before .before .before .before .before .before .args .place in
-    let e : place + 1 ≡ suc place = omega arith in
-    cc
+    let a = c .before .before .before .before .before .before .before .before .before .before .args in
+    let e : a .place + 1 ≡ suc (a .place) = omega arith in
+    c .before .before .store2 .ensures ∙ (λ i. set (c .before .before .before .before .before .before .store .ensures i) (e i) (a .value / 256))
 
 pub put-u16-spec : {M : Type 1} → statement M
 put-u16-spec =

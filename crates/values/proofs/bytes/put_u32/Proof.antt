@@ -1,8 +1,9 @@
-use Rattle.values.specs.Lists.{bytes₄}
+use Rattle.values.specs.Lists.{bytes₂, bytes₄}
 use Rattle.values.proofs.SetsLaws.{sets-past}
-use mathlib.Core.Path.{_≡_}
+use mathlib.Core.Path.{_∙_, _≡_}
 use native.Mathlib.Omega.{arith}
-use Prim.Native.Nat.{suc, _+_}
+use Prim.Native.Nat.{suc, _+_, _/_}
+use lib.Seq.{sets}
 use denote.Ref.{now}
 use borrow.Author.Needs.{needs}
 use Rattle.values.proofs.bytes.put_u32.Statement.{statement}
@@ -32,9 +33,9 @@ same-length c = search needs
 
 returns-2 : tie.Need-returns-2
 returns-2 c =
-    let place = c .before .before .before .before .before .before .before .before .before .before .args .place in
-    let e : place + 2 ≡ suc (suc place) = omega arith in
-    cc
+    let a = c .before .before .before .before .before .before .before .before .before .before .args in
+    let e : a .place + 2 ≡ suc (suc (a .place)) = omega arith in
+    c .before .before .put-u162 .ensures ∙ (λ i. sets (c .before .before .before .before .before .before .put-u16 .ensures i) (e i) (bytes₂ (a .value / 65536)))
 
 pub put-u32-spec : {M : Type 1} → statement M
 put-u32-spec =

@@ -1,7 +1,7 @@
 use Rattle.witness.specs.Inner.Clocks.{started}
 use Rattle.netlist.specs.Netlist.{netOf}
-use Rattle.circuit.specs.ClockLists.{clockStart}
-use Rattle.values.specs.Lists.{rewritten}
+use Rattle.simulator.specs.ClockLists.{clockStart}
+use Rattle.values.specs.Inner.Rewriting.{rewritten}
 use Rattle.values.proofs.ListLaws.{length-rewritten, rewritten-more}
 use Prim.Native.Nat.{ℕ, _≤_, _-_}
 use mathlib.Core.Path.{_≡_, ap, refl, _∙_}

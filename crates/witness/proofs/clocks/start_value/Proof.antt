@@ -1,4 +1,4 @@
-use Rattle.circuit.specs.ClockLists.{clockStart}
+use Rattle.simulator.specs.ClockLists.{clockStart}
 use Rattle.netlist.specs.Netlist.{kindOf, netOf}
 use denote.Ref.{now}
 use borrow.Author.Tests.{ne-eqb}

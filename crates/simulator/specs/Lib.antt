@@ -1,0 +1,6 @@
+-- What a reader must believe of this crate, each file using only those above it; last Inner, which only the contracts of functions speak
+-- of that are no tool of 01.
+pub mod Clock
+pub mod ClockLists
+pub mod Statement
+pub mod Inner

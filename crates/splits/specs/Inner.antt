@@ -1,0 +1,3 @@
+-- What only the contracts of functions speak of that are no tool of 01: those between crates, and inner ones.
+pub mod Next
+pub mod NoteBytes
