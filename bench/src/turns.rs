@@ -18,6 +18,13 @@ const LONG_TURNS: usize = 5;
 /// The seconds from which on that is so.
 const LONG: f64 = 1.0;
 
+/// Turns of each library at a line that is short with both: what disturbs one
+/// turn weighs more there.
+const SHORT_TURNS: usize = 45;
+
+/// The seconds up to which that is so.
+const SHORT: f64 = 0.1;
+
 /// The word by which this program is asked for one turn.
 pub const LINE: &str = "line";
 
@@ -35,17 +42,34 @@ impl Row {
         }
     }
 
-    fn is_long(&self) -> bool {
-        self.medians().iter().all(|seconds| *seconds >= LONG)
+    /// Whether both libraries have taken as many turns as the line is given.
+    fn is_done(&self) -> bool {
+        let medians = self.medians();
+        let turns = if medians.iter().all(|seconds| *seconds >= LONG) {
+            LONG_TURNS
+        } else if medians.iter().all(|seconds| *seconds <= SHORT) {
+            SHORT_TURNS
+        } else {
+            TURNS
+        };
+        self.times[0].len() >= turns
     }
 
     fn medians(&self) -> [f64; 2] {
         self.times.clone().map(median)
     }
 
+    /// The median of the turns' own ratios: the two libraries take a turn one
+    /// after the other, so that slow and quick times of the machine meet both.
     fn ratio(&self) -> f64 {
-        let [before, after] = self.medians();
-        after / before
+        let [before, after] = &self.times;
+        median(
+            after
+                .iter()
+                .zip(before)
+                .map(|(after, before)| after / before)
+                .collect(),
+        )
     }
 
     /// The ratio of the turns that other work on the machine disturbed least.
@@ -88,7 +112,10 @@ pub fn take_all(before: &str) -> ExitCode {
 /// the two goes first in every other turn.
 fn compare(programs: &[PathBuf; 2], place: usize, line: &Line) -> Option<Row> {
     let mut row = Row::new(line);
-    for turn in 0..TURNS {
+    for turn in 0.. {
+        if turn >= LONG_TURNS && row.is_done() {
+            break;
+        }
         let mut checksums = [0; 2];
         for side in [turn % 2, 1 - turn % 2] {
             let Turn { seconds, checksum } = ask(&programs[side], place);
@@ -97,9 +124,6 @@ fn compare(programs: &[PathBuf; 2], place: usize, line: &Line) -> Option<Row> {
         }
         if checksums[0] != checksums[1] {
             return None;
-        }
-        if turn + 1 == LONG_TURNS && row.is_long() {
-            break;
         }
     }
     Some(row)
@@ -128,8 +152,9 @@ fn ask(program: &Path, place: usize) -> Turn {
 fn print(rows: &[Row]) {
     println!("Processor seconds of a whole report, which is the finder on every fault, and of");
     println!("one call on each of the circuits or certificates of a size: medians of turns,");
-    println!("which the two libraries took one after the other. Answers and certificates are");
-    println!("the same. Where the two ratios are far apart, other work disturbed the turns.");
+    println!("which the two libraries took one after the other. The ratio is the median of the");
+    println!("turns' own ratios. Answers and certificates are the same. Where the two ratios");
+    println!("are far apart, other work disturbed the turns.");
     println!();
     let headings = [
         "Line",
