@@ -4,7 +4,8 @@ use libc::STDIN_FILENO;
 use libc::STDOUT_FILENO;
 use report_text::LINE_LENGTH;
 
-// Prints each line as it is made.
+// Prints each line as it is made, and stops at the first that the output does not take whole: no
+// line, and so no total, follows one that is missing.
 fn print_report(
     input: &[u8],
     known: &mut [u8],
@@ -18,7 +19,9 @@ fn print_report(
     while !report_text::is_over(progress) {
         progress = report_text::next_line(input, progress, known, touched, certificate, line);
         let end = progress.length;
-        io::write_all(STDOUT_FILENO, &line[..end]);
+        if !io::write_all(STDOUT_FILENO, &line[..end]) {
+            return;
+        }
     }
 }
 

@@ -1,3 +1,6 @@
+-- The report line by line. The loop keeps the lengths of the four lent slices, so that they stay the program's buffers, and each turn
+-- leaves one turn less (`turn-left`). `line-fits` and `lengths-kept` say what holds when a line was made; the rest cites them, whether
+-- the output took the line or not.
 use Rattle.report_text.specs.Turns.{ProgramBuffers, slices, turnsLeft}
 use lib.Seq.{length-take-le}
 use Rattle.report_text.proofs.TurnLaws.{turn-left}
@@ -10,12 +13,6 @@ use mathlib.Core.Path.{_∙_, _≡_, refl, sym}
 use denote.Ref.{now}
 use Rattle.report.proofs.print_report.Statement.{statement}
 use Rattle.report.proofs.print_report.Tie as tie
-use Rattle.report.proofs.print_report.Reads as reads
-use Rattle.report.proofs.print_report.Lts as lts
-use Rattle.io.proofs.write_all.Reads as write-all-reads
-use Rattle.report_text.proofs.begin.Reads as begin-reads
-use Rattle.report_text.proofs.is_over.Reads as is-over-reads
-use Rattle.report_text.proofs.next_line.Reads as next-line-reads
 
 abbrev Inv-loop : tie.InvT-loop
 Inv-loop input known₀ touched₀ certificate₀ line₀ progress₀ known touched certificate line progress =
@@ -40,26 +37,62 @@ is-over-requires c κs = search needs
 next-line-requires : tie.Need-next-line-requires Inv-loop μ-loop
 next-line-requires c κs = search needs
 
+-- the line that was made lies within its slice
+line-fits : (c : tie.After-next-line Inv-loop μ-loop) → c .next-line .result .length ≤ length (c .next-line .last .1 .1 .1 .1 .1 .0)
+line-fits c =
+    let n = c .next-line in
+    omega (arith, n .ensures .1 .0, n .kept .1 .1 .1 .1 .1 .0, c .before .before .before .before .before .before .before .loop .inv .4 .line)
+
 slice-reshare-prefix-write-all : tie.Need-slice-reshare-prefix-write-all Inv-loop μ-loop
-slice-reshare-prefix-write-all c =
-    let at-line = c .before .before .before .before .before .before .before .before in
-    let n = at-line .next-line in
-    omega (arith, n .ensures .1 .0, n .kept .1 .1 .1 .1 .1 .0, at-line .before .before .before .before .before .before .before .loop .inv .4 .line)
+slice-reshare-prefix-write-all c = line-fits (c .before .before .before .before .before .before .before .before)
 
 slice-aggregate-write-all : tie.Need-slice-aggregate-write-all Inv-loop μ-loop
 slice-aggregate-write-all c =
     let at-line = c .before .before .before .before .before .before .before .before .before in
     let n = at-line .next-line in
-    let room = at-line .before .before .before .before .before .before .before .loop .inv .4 .line in
-    let h : n .result .length ≤ length (n .last .1 .1 .1 .1 .1 .0) = omega (arith, n .ensures .1 .0, n .kept .1 .1 .1 .1 .1 .0, room) in
-    sym (length-take-le (n .result .length) (n .last .1 .1 .1 .1 .1 .0) h)
+    sym (length-take-le (n .result .length) (n .last .1 .1 .1 .1 .1 .0) (line-fits at-line))
 
 write-all-requires : tie.Need-write-all-requires Inv-loop μ-loop
 write-all-requires c κs = search needs
 
+-- the slices that were lent for a line have the lengths that they had at first
+abbrev LengthsKept : tie.After-next-line Inv-loop μ-loop → Type 0
+LengthsKept c =
+    let l = c .next-line .last .1 .1 in
+    let a = c .before .before .before .before .before .before .before .before .before .before .before .before .before .before .args in
+    (length (l .0) ≡ length (now (a .known)))
+    × (length (l .1 .0) ≡ length (now (a .touched)))
+    × (length (l .1 .1 .0) ≡ length (now (a .certificate)))
+    × (length (l .1 .1 .1 .0) ≡ length (now (a .line)))
+
+lengths-kept : (c : tie.After-next-line Inv-loop μ-loop) → LengthsKept c
+lengths-kept c =
+    let k = c .next-line .kept .1 .1 in
+    let i = c .before .before .before .before .before .before .before .loop .inv in
+    (k .0 ∙ i .0, k .1 .0 ∙ i .1, k .1 .1 .0 ∙ i .2, k .1 .1 .1 .0 ∙ i .3)
+
+-- where the output did not take the line, when it was made
+abbrev line-of-stop : tie.Then2 Inv-loop μ-loop → tie.After-next-line Inv-loop μ-loop
+line-of-stop c = c .before .before .before .before .before .before .before .before .before .before .before
+
+same-length : tie.Need-same-length Inv-loop μ-loop
+same-length c = lengths-kept (line-of-stop c) .0
+
+same-length-2 : tie.Need-same-length-2 Inv-loop μ-loop
+same-length-2 c = lengths-kept (line-of-stop c) .1
+
+same-length-3 : tie.Need-same-length-3 Inv-loop μ-loop
+same-length-3 c = lengths-kept (line-of-stop c) .2
+
+same-length-4 : tie.Need-same-length-4 Inv-loop μ-loop
+same-length-4 c = lengths-kept (line-of-stop c) .3
+
+returns : tie.Need-returns Inv-loop μ-loop
+returns c = search needs
+
 loop-less : tie.Need-loop-less Inv-loop μ-loop
 loop-less c =
-    let at-line = c .before .before .before .before .before .before .before .before .before .before in
+    let at-line = c .before .before .before .before .before .before .before .before .before .before .before in
     let at-test = at-line .before .before .before .before .before in
     let at-loop = at-test .before .before in
     let a = at-loop .before .before .before .before .before .before .before .args in
@@ -69,14 +102,14 @@ loop-less c =
 
 loop-again : tie.Need-loop-again Inv-loop μ-loop
 loop-again c =
-    let at-line = c .before .before .before .before .before .before .before .before .before .before in
-    let l = at-line .before .before .before .before .before .before .before .loop in
+    let at-line = c .before .before .before .before .before .before .before .before .before .before .before in
     let k = at-line .next-line .kept in
-    let r = l .inv .4 in (
-      k .1 .1 .0 ∙ l .inv .0,
-      k .1 .1 .1 .0 ∙ l .inv .1,
-      k .1 .1 .1 .1 .0 ∙ l .inv .2,
-      k .1 .1 .1 .1 .1 .0 ∙ l .inv .3,
+    let l = lengths-kept at-line in
+    let r = at-line .before .before .before .before .before .before .before .loop .inv .4 in (
+      l .0,
+      l .1,
+      l .2,
+      l .3,
       record {
         first = k .1 .1 .0 ∙ r .first;
         second = k .1 .1 .1 .0 ∙ r .second;
@@ -85,20 +118,20 @@ loop-again c =
       },
     )
 
-same-length : tie.Need-same-length Inv-loop μ-loop
-same-length c = c .before .before .loop .inv .0
+same-length-5 : tie.Need-same-length-5 Inv-loop μ-loop
+same-length-5 c = c .before .before .loop .inv .0
 
-same-length-2 : tie.Need-same-length-2 Inv-loop μ-loop
-same-length-2 c = c .before .before .loop .inv .1
+same-length-6 : tie.Need-same-length-6 Inv-loop μ-loop
+same-length-6 c = c .before .before .loop .inv .1
 
-same-length-3 : tie.Need-same-length-3 Inv-loop μ-loop
-same-length-3 c = c .before .before .loop .inv .2
+same-length-7 : tie.Need-same-length-7 Inv-loop μ-loop
+same-length-7 c = c .before .before .loop .inv .2
 
-same-length-4 : tie.Need-same-length-4 Inv-loop μ-loop
-same-length-4 c = c .before .before .loop .inv .3
+same-length-8 : tie.Need-same-length-8 Inv-loop μ-loop
+same-length-8 c = c .before .before .loop .inv .3
 
-returns : tie.Need-returns Inv-loop μ-loop
-returns c = search needs
+returns-2 : tie.Need-returns-2 Inv-loop μ-loop
+returns-2 c = search needs
 
 pub print-report-spec : {M : Type 1} → statement M
 print-report-spec =
@@ -113,10 +146,15 @@ print-report-spec =
     slice-reshare-prefix-write-all
     slice-aggregate-write-all
     write-all-requires
-    loop-less
-    loop-again
     same-length
     same-length-2
     same-length-3
     same-length-4
-    returns)
+    returns
+    loop-less
+    loop-again
+    same-length-5
+    same-length-6
+    same-length-7
+    same-length-8
+    returns-2)
