@@ -2,7 +2,6 @@
 ghost use mathlib.Core.Path.{_≡_};
 ghost use Prim.Native.Nat.{_*_, _+_};
 ghost use lib.Seq.{sets};
-ghost use Rattle.certificate.specs.Certificate.{headLength};
 ghost use Rattle.certificate.specs.Inner.Parts.{namedBytes, pairsBytes};
 ghost use Rattle.certificate.specs.Written.{headBytes, stepBytes};
 use crate::layout::HEAD_LENGTH;

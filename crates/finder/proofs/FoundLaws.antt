@@ -21,7 +21,7 @@ use Rattle.search.specs.FirstSplit.{IsFirst, firstSplit}
 use Rattle.sweeps.specs.Splits.{certificateFor, stepCount}
 use Rattle.certificate.specs.Written.{written}
 use Rattle.splits.specs.declared.split.Split.{Split}
-use Rattle.finder.specs.Finder.{FinderOutcome, answerFor, bytesFor, finderOutcome, finding, found, nothingFound, searched, turnedBack}
+use Rattle.finder.specs.Finder.{FinderOutcome, answerFor, bytesFor, finderOutcome, finding, found, nothingFound, searched, findRefused}
 use Rattle.finder.specs.Marks.{IsMark, NoneCloses}
 use Rattle.knowledge.specs.Window.{mostFrames}
 
@@ -55,16 +55,16 @@ unfolding finding
 answered-searched a o vs e h = go (reading (a .netlist)) refl e
   where
     tested : Option ℕ → FinderOutcome
-    tested r = elim r [ some k ↦ turnedBack k a | none ↦ searched a ]
+    tested r = elim r [ some k ↦ findRefused k a | none ↦ searched a ]
 
-    not-refused : (k : ℕ) → o ≡ turnedBack k a → Searched a o
+    not-refused : (k : ℕ) → o ≡ findRefused k a → Searched a o
     not-refused k e = absurd (let q : refused k ≡ answered vs = sym (ap (λ (o : FinderOutcome). o .answer) e) ∙ h in let z : _≡_ {A = ℕ} 0 1 = cc in omega arith)
 
     tests : reading (a .netlist) ≡ sound (nodeCount (a .netlist)) (pinCount (a .netlist)) → (r : Option ℕ) → refusal finderTests a ≡ r → o ≡ tested r → Searched a o
     tests s none q e = record { sound-netlist = s; passed = refusal-none finderTests a q; outcome = e }
     tests s (some k) q e = not-refused k e
 
-    go : (r : Answer) → reading (a .netlist) ≡ r → o ≡ elim r [ refused k ↦ turnedBack k a | answered _ ↦ tested (refusal finderTests a) ] → Searched a o
+    go : (r : Answer) → reading (a .netlist) ≡ r → o ≡ elim r [ refused k ↦ findRefused k a | answered _ ↦ tested (refusal finderTests a) ] → Searched a o
     go (refused k) q e = not-refused k e
     go (answered us) q e = tests (answered-sound (a .netlist) us q) (refusal finderTests a) refl e
 

@@ -17,7 +17,7 @@ use Rattle.netlist.specs.Netlist.{netOf, nodeCount, pinCount, reading, sound, m
 use Rattle.trace.specs.Trace.{cleared}
 use Rattle.search.proofs.SearchLaws.{answered-split}
 use Rattle.search.proofs.TestLaws.{window-size}
-use Rattle.search.specs.FinderCall.{FinderCall, finderCall, finderTests, frames, windowSize}
+use Rattle.search.specs.FinderCall.{FinderCall, finderCall, finderTests, frames, largestWindow}
 use Rattle.search.specs.FirstSplit.{firstSplit}
 use Rattle.search.specs.Inner.Search.{SearchOutcome, atSplit, searchMade, searchOutcome, searching, unsearched}
 use Rattle.sweeps.proofs.KeptLaws.{certificate-says}
@@ -27,7 +27,7 @@ use Rattle.sweeps.specs.Splits.{certificateFor, stepCount}
 use Rattle.certificate.specs.Written.{written}
 use Rattle.search.specs.declared.answer.Searched.{Searched}
 use Rattle.splits.specs.declared.split.Split.{Split}
-use Rattle.finder.specs.Finder.{FinderOutcome, answerFor, bytesFor, finderOutcome, finding, found, nothingFound, searched, turnedBack}
+use Rattle.finder.specs.Finder.{FinderOutcome, answerFor, bytesFor, finderOutcome, finding, found, nothingFound, searched, findRefused}
 use Rattle.knowledge.specs.Window.{mostFrames}
 use Rattle.certificate.specs.Certificate.{headLength}
 
@@ -51,12 +51,12 @@ module _ (a : FinderCall) where
   abbrev splitAnswered : Option Split → FinderOutcome
   splitAnswered x =
       let net = netOf (a .netlist) in
-      let v = cleared (windowSize a) (a .first) in
-      let w = cleared (windowSize a) (a .second) in
+      let v = cleared (largestWindow a) (a .first) in
+      let w = cleared (largestWindow a) (a .second) in
       finderOutcome (answerFor net (a .fault) (a .f) x) v w (written (bytesFor net (a .fault) (a .f) x) (a .certificate))
 
   abbrev tested : Option ℕ → FinderOutcome
-  tested r = elim r [ some k ↦ turnedBack k a | none ↦ searched a ]
+  tested r = elim r [ some k ↦ findRefused k a | none ↦ searched a ]
 
   abbrev searchTested : Option ℕ → SearchOutcome
   searchTested r = elim r [ some k ↦ unsearched k searchCall | none ↦ searchMade searchCall ]
@@ -68,9 +68,9 @@ module _ (a : FinderCall) where
         | false ↦ some 9
         | true ↦ elim (leb (frames a) mostFrames) [
           | false ↦ some 10
-          | true ↦ elim (leb (windowSize a) (length (a .first)) && leb (windowSize a) (length (a .second))) [
+          | true ↦ elim (leb (largestWindow a) (length (a .first)) && leb (largestWindow a) (length (a .second))) [
             | false ↦ some 11
-            | true ↦ elim (leb (headLength + 14 * windowSize a) room) [ false ↦ some 12 | true ↦ none ]
+            | true ↦ elim (leb (headLength + 14 * largestWindow a) room) [ false ↦ some 12 | true ↦ none ]
           ]
         ]
       ]
@@ -83,7 +83,7 @@ module _ (a : FinderCall) where
   unfolding finding searching searched answerFor bytesFor
   finding-finished = by-reading (reading (a .netlist))
     where
-      by-split : (x : Option Split) → splitAnswered x ≡ answeredBy (cleared (windowSize a) (a .first)) (cleared (windowSize a) (a .second)) (atSplit x)
+      by-split : (x : Option Split) → splitAnswered x ≡ answeredBy (cleared (largestWindow a) (a .first)) (cleared (largestWindow a) (a .second)) (atSplit x)
       by-split none = refl
       by-split (some s) = refl
 
@@ -91,7 +91,7 @@ module _ (a : FinderCall) where
       by-test (some k) = refl
       by-test none = by-split (firstSplit (netOf (a .netlist)) (a .fault) (a .b) (a .f))
 
-      by-reading : (r : Answer) → _≡_ {A = FinderOutcome} (elim r [ refused k ↦ turnedBack k a | answered _ ↦ tested (refusal finderTests a) ])
+      by-reading : (r : Answer) → _≡_ {A = FinderOutcome} (elim r [ refused k ↦ findRefused k a | answered _ ↦ tested (refusal finderTests a) ])
           (finished (elim r [ refused k ↦ unsearched k searchCall | answered _ ↦ searchTested (refusal finderTests searchCall) ]))
       by-reading (refused k) = refl
       by-reading (answered vs) = by-test (refusal finderTests a) ∙ ap (λ (r : Option ℕ). finished (searchTested r)) same-refusal
@@ -108,10 +108,10 @@ pub record SplitReady (a : FinderCall) (s : Split) (v : List ℕ) (n : ℕ) : Ty
   pub frame-within : s .frame < s .c + a .f + 1
   pub node-within : s .node < n
   pub small : n * (s .c + a .f + 1) ≤ mostNodes * mostFrames
-  pub part : n * (s .c + a .f + 1) ≤ windowSize a
+  pub part : n * (s .c + a .f + 1) ≤ largestWindow a
   pub fits-first : n * (s .c + a .f + 1) ≤ length v
   pub fits-certificate : headLength + 14 * (n * (s .c + a .f + 1)) ≤ length (a .certificate)
-  pub first-cleared : v ≡ cleared (windowSize a) (a .first)
+  pub first-cleared : v ≡ cleared (largestWindow a) (a .first)
 
 pub split-ready : (a : FinderCall) (s : Split) (v w : List ℕ) (n : ℕ) → n ≡ nodeCount (a .netlist)
     → searchOutcome (Searched.At s) v w ≡ searching (searchCall a) → SplitReady a s v n
@@ -123,13 +123,13 @@ split-ready a s v w n q e =
     let wide : a .b + a .f + 1 ≤ mostFrames = leb-true (a .b + a .f + 1) mostFrames (f .passed .1 .0) in
     let up : s .c + a .f + 1 ≤ a .b + a .f + 1 = omega (arith, in-window .0) in
     let least : n * (s .c + a .f + 1) ≤ n * (a .b + a .f + 1) = mul-le-mul-left n up in
-    let whole : n * (a .b + a .f + 1) ≡ windowSize a = window-size (searchCall a) n (pinCount (a .netlist)) r in
+    let whole : n * (a .b + a .f + 1) ≡ largestWindow a = window-size (searchCall a) n (pinCount (a .netlist)) r in
     let few : n ≤ mostNodes = facts (a .netlist) n (pinCount (a .netlist)) r .few-nodes in
     let thin : s .c + a .f + 1 ≤ mostFrames = omega (arith, up, wide) in
     let all : n * (s .c + a .f + 1) ≤ mostNodes * mostFrames = mul-le-mul few thin in
-    let part : n * (s .c + a .f + 1) ≤ windowSize a = omega (arith, least, whole) in
-    let room : headLength + 14 * windowSize a ≤ length (replicate {A = ℕ} (length (a .certificate)) 0) = leb-true _ _ (f .passed .1 .1 .1 .0) in
-    let long = ap (λ (l : List ℕ). length l) (f .first-cleared) ∙ length-append (replicate (windowSize a) 0) (drop (windowSize a) (a .first)) in
+    let part : n * (s .c + a .f + 1) ≤ largestWindow a = omega (arith, least, whole) in
+    let room : headLength + 14 * largestWindow a ≤ length (replicate {A = ℕ} (length (a .certificate)) 0) = leb-true _ _ (f .passed .1 .1 .1 .0) in
+    let long = ap (λ (l : List ℕ). length l) (f .first-cleared) ∙ length-append (replicate (largestWindow a) 0) (drop (largestWindow a) (a .first)) in
     record {
       sound-netlist = r;
       there = f .passed .0;
@@ -138,7 +138,7 @@ split-ready a s v w n q e =
       node-within = omega (arith, in-window .2, size);
       small = omega (arith, all);
       part = part;
-      fits-first = omega (arith, part, long, length-replicate {A = ℕ} (windowSize a) 0);
+      fits-first = omega (arith, part, long, length-replicate {A = ℕ} (largestWindow a) 0);
       fits-certificate = omega (arith, part, room, length-replicate {A = ℕ} (length (a .certificate)) 0);
       first-cleared = f .first-cleared;
     }
@@ -172,5 +172,5 @@ written-says a s v n y r k x e =
       said .0,
       omega (arith, said .1, few),
       said .2,
-      (λ i. clear i ++ drop (n * W) (y .first-cleared i)) ∙ cleared-again (n * W) (windowSize a) (a .first) (y .part) ∙ sym (y .first-cleared),
+      (λ i. clear i ++ drop (n * W) (y .first-cleared i)) ∙ cleared-again (n * W) (largestWindow a) (a .first) (y .part) ∙ sym (y .first-cleared),
     )

@@ -9,7 +9,7 @@ use Rattle.simulator.proofs.ClockLaws.{Ordered, pinValues-agree}
 use Rattle.simulator.specs.Clock.{pinValues}
 use Rattle.circuit.specs.Fault.{StuckLines}
 use Rattle.gates.specs.Kind.{controlling, gate, isFlipFlop, ruleOf}
-use Rattle.values.specs.Lists.{at, every}
+use Rattle.values.specs.Lists.{at}
 use Rattle.netlist.specs.Netlist.{Net}
 use Rattle.gates.specs.Value.{differ, isUnknown, neg}
 

@@ -68,7 +68,8 @@ module _ (net : Net) (s : StuckLines) (v : ℕ → ℕ) (n o k : ℕ) where
   pub conclusion-none : 2 ≤ s .pin n k → against tried ≡ false → against (neg tried) ≡ false → 2 ≡ pinConclusion net s v n o k
   conclusion-none h e f = by-tests true false false (unknown-high (s .pin n k) h) e f
 
--- what a relation concludes, where its parts were worked out one by one: p is the frame of its pins, lines the stuck ones there, values what is known there
+-- what a relation concludes, where its parts were worked out one by one: p is the frame of its pins, lines the stuck ones there, values
+-- what is known there
 module _ (net : Net) (S : ℕ → StuckLines) (l : List ℕ) (n t p N : ℕ) (lines : StuckLines) (values : List ℕ) (hp : p ≡ pinFrame (net .kind n) t) (hN : N ≡ net .size) (hs : lines ≡ S p)
     (hv : values ≡ drop (p * N + 0) l) where
   known-there : at values ≡ (λ (m : ℕ). knownIn l (net .size) m (pinFrame (net .kind n) t))

@@ -99,7 +99,8 @@ pub fn pin_source(netlist: &[u8], node: u16, pin: u16) -> u16
 
 // What the relation of a node at a frame concludes of one of its lines: line 0 is the output, and
 // line k + 1 is pin k. The value is UNKNOWN or above where nothing is concluded. What is known lies
-// in bytes, frame by frame, one for each node; a place past the end counts as known to be 0.
+// in bytes, frame by frame, one for each node; a place past the end counts as known to be 0, which
+// no caller may lean on: it says nothing of the circuit, and a window has a byte for each place.
 pub fn conclude(
     netlist: &[u8],
     fault: Fault,

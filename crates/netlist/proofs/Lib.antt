@@ -2,4 +2,5 @@
 pub mod RefusalLaws
 pub mod NetlistLaws
 pub mod SoundLaws
+pub mod NumberLaws
 pub mod Vectors

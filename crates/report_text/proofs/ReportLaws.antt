@@ -23,7 +23,7 @@ use Rattle.finder.proofs.FindingLaws.{all-passed, finding-unsound, short-certif
 use Rattle.search.proofs.FirstLaws.{split-some}
 use Rattle.search.proofs.ClosingLaws.{site-few}
 use Rattle.search.specs.FinderCall.{FinderCall, finderCall}
-use Rattle.finder.specs.Finder.{FinderOutcome, answerFor, bytesFor, finding, searched, turnedBack}
+use Rattle.finder.specs.Finder.{FinderOutcome, answerFor, bytesFor, finding, searched, findRefused}
 use Rattle.sweeps.specs.Splits.{certificateFor}
 use Rattle.splits.specs.Split.{split}
 use Rattle.search.specs.FirstSplit.{firstSplit}
@@ -103,7 +103,7 @@ module _ (input : List ℕ) where
   abbrev makes : Fault → ℕ → ℕ → FinderOutcome → Made
   makes f a b o = madeFor net f a b (o .certificate) (o .answer)
 
-  makes-refused : (f : Fault) (s : Slices) (a b k : ℕ) → finding (call f s) ≡ turnedBack k (call f s) → makes f a b (finding (call f s)) ≡ made Over a b (refusedLine k)
+  makes-refused : (f : Fault) (s : Slices) (a b k : ℕ) → finding (call f s) ≡ findRefused k (call f s) → makes f a b (finding (call f s)) ≡ made Over a b (refusedLine k)
   unfolding madeFor
   makes-refused f s a b k e = ap (makes f a b) e
 
@@ -153,7 +153,7 @@ module _ (input : List ℕ) where
         (writes-line i 0 (made Over a b (totalLine a b)) [] (total-short a b h g) (refl, refl) ∙ append-nil (totalLine a b), refl)
 
     -- a refusal
-    refusal-line : (i : ℕ) (f : Fault) (a b j k : ℕ) → k < 4294967296 → finding (call f (S i)) ≡ turnedBack k (call f (S i)) → Ends i 1 (progress (Looking f) a b j) (refusedLine k)
+    refusal-line : (i : ℕ) (f : Fault) (a b j k : ℕ) → k < 4294967296 → finding (call f (S i)) ≡ findRefused k (call f (S i)) → Ends i 1 (progress (Looking f) a b j) (refusedLine k)
     unfolding writtenFrom progressFrom
     refusal-line i f a b j k h e =
         subst (λ (r : List ℕ). Ends i 1 (progress (Looking f) a b j) r) (append-nil (refusedLine k))
@@ -279,7 +279,7 @@ module _ (input : List ℕ) where
           (lines-from (length (faults net)) 0 (Looking (firstFault net)) 0 0 0 (first-exists net 0 pos) refl (ap (λ (fs : List Fault). length fs) all) (omega arith) (omega arith)))
 
   -- the beginning of a report that is refused with k
-  refused-writes : (k : ℕ) → k < 4294967296 → ((s : Slices) → ProgramBuffers s → finding (call (firstFault net) s) ≡ turnedBack k (call (firstFault net) s)) → report input ≡ refusedLine k
+  refused-writes : (k : ℕ) → k < 4294967296 → ((s : Slices) → ProgramBuffers s → finding (call (firstFault net) s) ≡ findRefused k (call (firstFault net) s)) → report input ≡ refusedLine k
       → WritesReport input (begun input)
   unfolding begun
   refused-writes k h q r =

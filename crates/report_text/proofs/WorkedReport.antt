@@ -9,7 +9,7 @@ use Rattle.gates.specs.Kind.{gate, ruleOf}
 use Rattle.values.specs.Lists.{any, build, every}
 use Rattle.netlist.specs.Netlist.{countFits, kindKnown, netOf, pairJoined, pairStart, pinsOf, reading, sizesAllowed, sourceAllowed, sourceOf, sourcesAllowed}
 use Rattle.checker.specs.Checker.{closes}
-use Rattle.trace.specs.Trace.{effectDies, gateMark, latchedMark, latchedMarks, marksList, nodeMark, pinMark}
+use Rattle.trace.specs.Trace.{effectDies, gateTouched, latchedTouched, latchedTouchedList, touchedList, nodeTouched, pinTouched}
 use Rattle.knowledge.specs.Window.{begin, conclusion, enter, inForce, known, outputConclusion, pinConclusion, held}
 use Rattle.sweeps.specs.Splits.{branchOf, splitCloses}
 use Rattle.search.specs.FirstSplit.{firstSome, tryFrames, tryNodes, trySplit, tryWindows}
@@ -64,7 +64,7 @@ pub worked-reports : WorkedReports
 unfolding reading sizesAllowed every any kindKnown pairJoined pairStart countFits ruleOf sourcesAllowed sourceAllowed sourceOf
     linesOf netOf pinsOf build pinValues gate
     held known inForce outputConclusion pinConclusion conclusion enter begin
-    pinMark gateMark nodeMark marksList latchedMark latchedMarks effectDies closes
+    pinTouched gateTouched nodeTouched touchedList latchedTouched latchedTouchedList effectDies closes
     rising saysNothing tryLine useRelation sweepFrame sweep sweeps implied
     firstSome branchOf splitCloses trySplit tryNodes tryFrames tryWindows
     pinFaults nodeFaults faultsOf digits decimal field markLine totalLine refusedLine marksAmong markLines reportLines reportOn report

@@ -69,15 +69,15 @@ notes-set net f F c known before after stay noted old r hr hm e = go (noted (r .
         (stay (r .node) (r .frame) hm (omega (arith, z)) (q .1))
 
 -- A set is noted where it is open.
-pub notes-open : (bs : List ℕ) → Ordered (netOf bs) → (f : Fault) (F c : ℕ) (values marks notes : List ℕ) → NotedStayOpen (netOf bs) f F notes
-    → NotedStayOpen (netOf bs) f F (notingOpen bs f c F values marks notes .noted)
+pub notes-open : (bs : List ℕ) → Ordered (netOf bs) → (f : Fault) (F c : ℕ) (values touched notes : List ℕ) → NotedStayOpen (netOf bs) f F notes
+    → NotedStayOpen (netOf bs) f F (notingOpen bs f c F values touched notes .noted)
 unfolding notingOpen
-notes-open bs o f F c values marks notes old = go (t .answer) refl
+notes-open bs o f F c values touched notes old = go (t .answer) refl
   where
     t : Tried
-    t = opening bs f c F values marks
+    t = opening bs f c F values touched
 
     go : (q : Bool) → t .answer ≡ q → NotedStayOpen (netOf bs) f F (cond q (notedWith (t .known) c notes) notes)
     go true e =
-        notes-set (netOf bs) f F c (t .known) notes (notedWith (t .known) c notes) (open-set-kept bs o f c F values marks e) (noted-places (t .known) c notes) old
+        notes-set (netOf bs) f F c (t .known) notes (notedWith (t .known) c notes) (open-set-kept bs o f c F values touched e) (noted-places (t .known) c notes) old
     go false e = old

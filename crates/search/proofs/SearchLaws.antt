@@ -10,7 +10,7 @@ use Rattle.netlist.specs.Answer.{Answer, answered, refusal, refused}
 use Rattle.netlist.specs.Netlist.{netOf, nodeCount, pinCount, reading, sound}
 use Rattle.trace.specs.Trace.{cleared}
 use Rattle.search.proofs.FirstLaws.{split-some}
-use Rattle.search.specs.FinderCall.{FinderCall, finderTests, windowSize}
+use Rattle.search.specs.FinderCall.{FinderCall, finderTests, largestWindow}
 use Rattle.search.specs.FirstSplit.{IsFirst, firstSplit}
 use Rattle.search.specs.Inner.Search.{SearchOutcome, atSplit, searchMade, searchOutcome, searching, unsearched}
 use Rattle.search.specs.declared.answer.Searched.{Searched}
@@ -21,7 +21,7 @@ pub record SplitFound (a : FinderCall) (s : Split) (v : List ℕ) : Type 0 where
   pub sound-netlist : reading (a .netlist) ≡ sound (nodeCount (a .netlist)) (pinCount (a .netlist))
   pub passed : Passed finderTests a
   pub is-first : IsFirst (netOf (a .netlist)) (a .fault) (a .b) (a .f) s
-  pub first-cleared : v ≡ cleared (windowSize a) (a .first)
+  pub first-cleared : v ≡ cleared (largestWindow a) (a .first)
 
 module _ (a : FinderCall) where
   abbrev tested : Option ℕ → SearchOutcome

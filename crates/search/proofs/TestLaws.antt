@@ -10,27 +10,14 @@ use Rattle.netlist.proofs.RefusalLaws.{FirstFails, Passed, fails-here, fails-la
 use Rattle.netlist.proofs.SoundLaws.{sound-size}
 use Rattle.circuit.specs.Fault.{faultExists}
 use Rattle.netlist.specs.Netlist.{netOf, reading, sound}
-use Rattle.search.specs.FinderCall.{FinderCall, finderTests, frames, windowSize}
+use Rattle.search.specs.FinderCall.{FinderCall, finderTests, frames, largestWindow}
 use Rattle.knowledge.specs.Window.{mostFrames}
 use Rattle.certificate.specs.Certificate.{headLength}
-
--- what `slices_refusal` says of a window of this size and slices of these lengths
-abbrev pub slicesNumber : ℕ → ℕ → ℕ → ℕ → ℕ
-slicesNumber size v w x = cond (leb size v && leb size w) (cond (leb (headLength + 14 * size) x) 0 12) 11
-
--- where it is 0, all three fit
-pub slices-fit : (size v w x : ℕ) → slicesNumber size v w x ≡ 0 → (size ≤ v) × (size ≤ w) × (headLength + 14 * size ≤ x)
-slices-fit size v w x e = by (leb size v) (leb size w) (leb (headLength + 14 * size) x) refl refl refl e
-  where
-    by : (t u s : Bool) → leb size v ≡ t → leb size w ≡ u → leb (headLength + 14 * size) x ≡ s → _≡_ {A = ℕ} (cond (t && u) (cond s 0 12) 11) 0 → (size ≤ v) × (size ≤ w) × (headLength + 14 * size ≤ x)
-    by true true true p q r e = (leb-true size v p, leb-true size w q, leb-true (headLength + 14 * size) x r)
-    by true true false p q r e = absurd (omega (arith, e))
-    by true false s p q r e = absurd (omega (arith, e))
-    by false u s p q r e = absurd (omega (arith, e))
+use Rattle.certificate.specs.Inner.Room.{slicesNumber}
 
 -- The tests of a sound netlist of n nodes, one after the other. n × W is the size of the window.
 module _ (a : FinderCall) (n p : ℕ) (e : reading (a .netlist) ≡ sound n p) where
-  pub window-size : n * frames a ≡ windowSize a
+  pub window-size : n * frames a ≡ largestWindow a
   window-size = ap (λ (x : ℕ). x * frames a) (sound-size (a .netlist) n p e)
 
   pub no-fault : faultExists (netOf (a .netlist)) (a .fault) ≡ false → FirstFails a 9 finderTests
@@ -46,33 +33,33 @@ module _ (a : FinderCall) (n p : ℕ) (e : reading (a .netlist) ≡ sound n p) w
 
       pub short-first : length (a .first) < n * frames a → FirstFails a 11 finderTests
       short-first t =
-          let h : length (a .first) < windowSize a = omega (arith, window-size) in
-          let f : (leb (windowSize a) (length (a .first)) && leb (windowSize a) (length (a .second))) ≡ false = rw (lt-leb (windowSize a) (length (a .first)) h) in
+          let h : length (a .first) < largestWindow a = omega (arith, window-size) in
+          let f : (leb (largestWindow a) (length (a .first)) && leb (largestWindow a) (length (a .second))) ≡ false = rw (lt-leb (largestWindow a) (length (a .first)) h) in
           fails-later t₉ (fails-later t₁₀ (fails-here f refl))
 
       module _ (v : n * frames a ≤ length (a .first)) where
-        fits-first : leb (windowSize a) (length (a .first)) ≡ true
-        fits-first = le-leb (windowSize a) (length (a .first)) (omega (arith, window-size))
+        fits-first : leb (largestWindow a) (length (a .first)) ≡ true
+        fits-first = le-leb (largestWindow a) (length (a .first)) (omega (arith, window-size))
 
         pub short-second : length (a .second) < n * frames a → FirstFails a 11 finderTests
         short-second t =
-            let h : length (a .second) < windowSize a = omega (arith, window-size) in
-            let f : (leb (windowSize a) (length (a .first)) && leb (windowSize a) (length (a .second))) ≡ false = rw (fits-first, lt-leb (windowSize a) (length (a .second)) h) in
+            let h : length (a .second) < largestWindow a = omega (arith, window-size) in
+            let f : (leb (largestWindow a) (length (a .first)) && leb (largestWindow a) (length (a .second))) ≡ false = rw (fits-first, lt-leb (largestWindow a) (length (a .second)) h) in
             fails-later t₉ (fails-later t₁₀ (fails-here f refl))
 
         module _ (x : n * frames a ≤ length (a .second)) where
-          t₁₁ : (leb (windowSize a) (length (a .first)) && leb (windowSize a) (length (a .second))) ≡ true
-          t₁₁ = rw fits-first (le-leb (windowSize a) (length (a .second)) (omega (arith, window-size)))
+          t₁₁ : (leb (largestWindow a) (length (a .first)) && leb (largestWindow a) (length (a .second))) ≡ true
+          t₁₁ = rw fits-first (le-leb (largestWindow a) (length (a .second)) (omega (arith, window-size)))
 
           pub short-certificate : length (a .certificate) < headLength + 14 * (n * frames a) → FirstFails a 12 finderTests
           short-certificate t =
-              let h : length (a .certificate) < headLength + 14 * windowSize a = omega (arith, window-size) in
-              fails-later t₉ (fails-later t₁₀ (fails-later t₁₁ (fails-here (lt-leb (headLength + 14 * windowSize a) (length (a .certificate)) h) refl)))
+              let h : length (a .certificate) < headLength + 14 * largestWindow a = omega (arith, window-size) in
+              fails-later t₉ (fails-later t₁₀ (fails-later t₁₁ (fails-here (lt-leb (headLength + 14 * largestWindow a) (length (a .certificate)) h) refl)))
 
           pub all-passed : headLength + 14 * (n * frames a) ≤ length (a .certificate) → Passed finderTests a
           all-passed t =
-              let h : headLength + 14 * windowSize a ≤ length (a .certificate) = omega (arith, window-size) in
-              (t₉, (t₁₀, (t₁₁, (le-leb (headLength + 14 * windowSize a) (length (a .certificate)) h, tt))))
+              let h : headLength + 14 * largestWindow a ≤ length (a .certificate) = omega (arith, window-size) in
+              (t₉, (t₁₀, (t₁₁, (le-leb (headLength + 14 * largestWindow a) (length (a .certificate)) h, tt))))
 
       -- a slice that is too short, by its number
       pub short-slices : (k : ℕ) → k ≡ slicesNumber (n * frames a) (length (a .first)) (length (a .second)) (length (a .certificate)) → (k ≡ 0 → ⊥) → FirstFails a k finderTests

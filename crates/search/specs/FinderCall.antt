@@ -25,17 +25,17 @@ abbrev pub finderCall : List ℕ → Fault → ℕ → ℕ → List ℕ → List
 finderCall netlist fault b f first second certificate =
     record { netlist = netlist; fault = fault; b = b; f = f; first = first; second = second; certificate = certificate }
 
--- W, and N × W
+-- W of the largest window, that of B, and its places: N × W
 abbrev pub frames : FinderCall → ℕ
 frames a = a .b + a .f + 1
 
-abbrev pub windowSize : FinderCall → ℕ
-windowSize a = netOf (a .netlist) .size * frames a
+abbrev pub largestWindow : FinderCall → ℕ
+largestWindow a = netOf (a .netlist) .size * frames a
 
 abbrev pub finderTests : List (Test FinderCall)
 finderTests =
     record { number = 9; passes = λ a. faultExists (netOf (a .netlist)) (a .fault) }
     ∷ record { number = 10; passes = λ a. leb (frames a) mostFrames }
-    ∷ record { number = 11; passes = λ a. leb (windowSize a) (length (a .first)) && leb (windowSize a) (length (a .second)) }
-    ∷ record { number = 12; passes = λ a. leb (headLength + 14 * windowSize a) (length (a .certificate)) }
+    ∷ record { number = 11; passes = λ a. leb (largestWindow a) (length (a .first)) && leb (largestWindow a) (length (a .second)) }
+    ∷ record { number = 12; passes = λ a. leb (headLength + 14 * largestWindow a) (length (a .certificate)) }
     ∷ []

@@ -1,8 +1,7 @@
 // The search's answer: the first split whose two branches close, or none, or a refusal.
 ghost use mathlib.Core.Path.{_≡_};
-ghost use mathlib.Core.Bool.{_&&_, cond, true};
+ghost use mathlib.Core.Bool.{true};
 ghost use Prim.Native.Nat.{_*_, _+_, _≤_};
-ghost use lib.Dec.{leb};
 ghost use lib.ListN.{length, replicate};
 ghost use Rattle.circuit.specs.Fault.{faultExists};
 ghost use Rattle.netlist.specs.Netlist.{netOf, pinCount, reading, sound};
@@ -10,10 +9,8 @@ ghost use Rattle.search.specs.FinderCall.{finderCall};
 ghost use Rattle.search.specs.FirstSplit.{firstSplit};
 ghost use Rattle.search.specs.Inner.Search.{atSplit, searchOutcome, searching};
 ghost use Rattle.knowledge.specs.Window.{mostFrames};
-ghost use Rattle.certificate.specs.Certificate.{headLength};
 use crate::walk::split_in_window;
-use certificate::HEAD_LENGTH;
-use certificate::STEP_LENGTH;
+use certificate::slices_refusal;
 use circuit::Fault;
 use knowledge::MOST_FRAMES;
 use netlist::Reading;
@@ -34,39 +31,21 @@ fn search_window(
     b: u8,
     f: u8,
     known: &mut [u8],
-    marks: &mut [u8],
+    spare: &mut [u8],
 ) -> Searched
     requires { ⌜ reading (now netlist) ≡ sound n (pinCount (now netlist)) ⌝ }
     requires { ⌜ faultExists (netOf (now netlist)) fault ≡ true ⌝ }
     requires { ⌜ b + f + 1 ≤ mostFrames ⌝ }
-    requires { ⌜ (length (now known) ≡ n * (b + f + 1)) × (length (now marks) ≡ n * (b + f + 1)) ⌝ }
-    ensures { λ r. ⌜ searchOutcome r (now (known .exit)) (now (marks .exit)) ≡ searchOutcome (atSplit (firstSplit (netOf (now (netlist .entry))) fault b f)) (replicate (length (now (known .entry))) 0) (replicate (length (now (marks .entry))) 0) ⌝ }
+    requires { ⌜ (length (now known) ≡ n * (b + f + 1)) × (length (now spare) ≡ n * (b + f + 1)) ⌝ }
+    ensures { λ r. ⌜ searchOutcome r (now (known .exit)) (now (spare .exit)) ≡ searchOutcome (atSplit (firstSplit (netOf (now (netlist .entry))) fault b f)) (replicate (length (now (known .entry))) 0) (replicate (length (now (spare .entry))) 0) ⌝ }
 {
-    let split = split_in_window(netlist, n, fault, b, f, known, marks);
+    let split = split_in_window(netlist, n, fault, b, f, known, spare);
     values::fill(known, 0);
-    values::fill(marks, 0);
+    values::fill(spare, 0);
     if split.is_within(b) {
         return Searched::At(split);
     }
     Searched::None
-}
-
-// The refusal's number where a slice is too short for a window of this size: 11 for a work slice, 12
-// for the certificate's, which has this room. 0 where all fit.
-fn slices_refusal(size: usize, first: &[u8], second: &[u8], room: usize) -> u8
-    requires { ⌜ size ≤ 1000000 ⌝ }
-    ensures { λ r. ⌜ r ≡ cond (leb size (length (now (first .entry))) && leb size (length (now (second .entry)))) (cond (leb (headLength + 14 * size) room) 0 12) 11 ⌝ }
-{
-    if first.len() < size {
-        return 11;
-    }
-    if second.len() < size {
-        return 11;
-    }
-    if room < HEAD_LENGTH + 2 * STEP_LENGTH * size {
-        return 12;
-    }
-    0
 }
 
 // The first split that closes, by c up to b, then frame, then node; f frames lie behind the fault frame,

@@ -23,7 +23,7 @@ fn decide(
     f: u8,
     split: Split,
     known: &mut [u8],
-    marks: &mut [u8],
+    spare: &mut [u8],
     noted: &mut [u8],
     fan: &[u16],
     trail: &mut [u16],
@@ -31,18 +31,18 @@ fn decide(
     requires { ⌜ reading (now netlist) ≡ sound n (pinCount (now netlist)) ⌝ }
     requires { ⌜ faultExists (netOf (now netlist)) fault ≡ true ⌝ }
     requires { ⌜ (split .c + f + 1 ≤ mostFrames) × (split .frame < split .c + f + 1) × (split .node < n) ⌝ }
-    requires { ⌜ (length (now known) ≡ n * (split .c + f + 1)) × (length (now marks) ≡ n * (split .c + f + 1)) ⌝ }
+    requires { ⌜ (length (now known) ≡ n * (split .c + f + 1)) × (length (now spare) ≡ n * (split .c + f + 1)) ⌝ }
     requires { ⌜ NotedStayOpen (netOf (now netlist)) fault f (now noted) ⌝ }
     ensures { λ r. ⌜ r ≡ splitCloses (netOf (now (netlist .entry))) fault f split ⌝ }
     ensures { λ _. ⌜ NotedStayOpen (netOf (now (netlist .entry))) fault f (now (noted .exit)) ⌝ }
 {
-    note_proposed(netlist, n, fault, f, split, known, marks, noted, fan, trail);
+    note_proposed(netlist, n, fault, f, split, known, spare, noted, fan, trail);
     let c = split.c;
     let place = knowledge::place_of(n, split.node, split.frame as u16);
     if values::byte_at(noted, place) / NOTE_UNIT == c + 1 {
         return false;
     }
-    if sweeps::both_close(netlist, fault, f, split, known, marks) {
+    if sweeps::both_close(netlist, fault, f, split, known, spare) {
         return true;
     }
     splits::note_known(known, c, noted);
@@ -57,7 +57,7 @@ pub(crate) fn closes(
     f: u8,
     split: Split,
     known: &mut [u8],
-    marks: &mut [u8],
+    spare: &mut [u8],
     noted: &mut [u8],
     fan: &[u16],
     trail: &mut [u16],
@@ -65,7 +65,7 @@ pub(crate) fn closes(
     requires { ⌜ reading (now netlist) ≡ sound n (pinCount (now netlist)) ⌝ }
     requires { ⌜ faultExists (netOf (now netlist)) fault ≡ true ⌝ }
     requires { ⌜ (split .c + f + 1 ≤ mostFrames) × (split .frame < split .c + f + 1) × (split .node < n) ⌝ }
-    requires { ⌜ (n * (split .c + f + 1) ≤ length (now known)) × (n * (split .c + f + 1) ≤ length (now marks)) ⌝ }
+    requires { ⌜ (n * (split .c + f + 1) ≤ length (now known)) × (n * (split .c + f + 1) ≤ length (now spare)) ⌝ }
     requires { ⌜ NotedStayOpen (netOf (now netlist)) fault f (now noted) ⌝ }
     ensures { λ r. ⌜ r ≡ splitCloses (netOf (now (netlist .entry))) fault f split ⌝ }
     ensures { λ _. ⌜ NotedStayOpen (netOf (now (netlist .entry))) fault f (now (noted .exit)) ⌝ }
@@ -83,7 +83,7 @@ pub(crate) fn closes(
         f,
         split,
         &mut known[..size],
-        &mut marks[..size],
+        &mut spare[..size],
         noted,
         fan,
         trail,

@@ -52,7 +52,7 @@ pub(crate) fn note_proposed(
     f: u8,
     split: Split,
     known: &mut [u8],
-    marks: &mut [u8],
+    spare: &mut [u8],
     noted: &mut [u8],
     fan: &[u16],
     trail: &mut [u16],
@@ -60,7 +60,7 @@ pub(crate) fn note_proposed(
     requires { ⌜ reading (now netlist) ≡ sound n (pinCount (now netlist)) ⌝ }
     requires { ⌜ faultExists (netOf (now netlist)) fault ≡ true ⌝ }
     requires { ⌜ split .c + f + 1 ≤ mostFrames ⌝ }
-    requires { ⌜ (length (now known) ≡ n * (split .c + f + 1)) × (length (now marks) ≡ n * (split .c + f + 1)) ⌝ }
+    requires { ⌜ (length (now known) ≡ n * (split .c + f + 1)) × (length (now spare) ≡ n * (split .c + f + 1)) ⌝ }
     requires { ⌜ NotedStayOpen (netOf (now netlist)) fault f (now noted) ⌝ }
     ensures { λ _. ⌜ NotedStayOpen (netOf (now (netlist .entry))) fault f (now (noted .exit)) ⌝ }
 {
@@ -79,7 +79,7 @@ pub(crate) fn note_proposed(
     ) {
         return;
     }
-    sweeps::note_open(netlist, fault, c, f, known, marks, noted);
+    sweeps::note_open(netlist, fault, c, f, known, spare, noted);
 }
 
 // Notes the set that is guessed for the window of c, whose values stand from a place of the notes on,
@@ -92,18 +92,18 @@ fn note_guess(
     f: u8,
     from: usize,
     known: &mut [u8],
-    marks: &mut [u8],
+    spare: &mut [u8],
     noted: &mut [u8],
 )
     requires { ⌜ reading (now netlist) ≡ sound n (pinCount (now netlist)) ⌝ }
     requires { ⌜ faultExists (netOf (now netlist)) fault ≡ true ⌝ }
     requires { ⌜ (c + f + 1 ≤ mostFrames) × (from + length (now known) ≤ length (now noted)) ⌝ }
-    requires { ⌜ (length (now known) ≡ n * (c + f + 1)) × (length (now marks) ≡ n * (c + f + 1)) ⌝ }
+    requires { ⌜ (length (now known) ≡ n * (c + f + 1)) × (length (now spare) ≡ n * (c + f + 1)) ⌝ }
     requires { ⌜ NotedStayOpen (netOf (now netlist)) fault f (now noted) ⌝ }
     ensures { λ _. ⌜ NotedStayOpen (netOf (now (netlist .entry))) fault f (now (noted .exit)) ⌝ }
 {
     take_guess(noted, from, known);
-    sweeps::note_open(netlist, fault, c, f, known, marks, noted);
+    sweeps::note_open(netlist, fault, c, f, known, spare, noted);
 }
 
 // Before the first split of a window is tried, notes what is guessed for it. The guess is for the
@@ -116,13 +116,13 @@ pub(crate) fn note_window(
     f: u8,
     split: Split,
     known: &mut [u8],
-    marks: &mut [u8],
+    spare: &mut [u8],
     noted: &mut [u8],
 )
     requires { ⌜ reading (now netlist) ≡ sound n (pinCount (now netlist)) ⌝ }
     requires { ⌜ faultExists (netOf (now netlist)) fault ≡ true ⌝ }
     requires { ⌜ (b + f + 1 ≤ mostFrames) × (split .c ≤ b) ⌝ }
-    requires { ⌜ (length (now known) ≡ n * (b + f + 1)) × (length (now marks) ≡ n * (b + f + 1)) ⌝ }
+    requires { ⌜ (length (now known) ≡ n * (b + f + 1)) × (length (now spare) ≡ n * (b + f + 1)) ⌝ }
     requires { ⌜ NotedStayOpen (netOf (now netlist)) fault f (now noted) ⌝ }
     ensures { λ _. ⌜ NotedStayOpen (netOf (now (netlist .entry))) fault f (now (noted .exit)) ⌝ }
 {
@@ -146,7 +146,7 @@ pub(crate) fn note_window(
         f,
         from,
         &mut known[..size],
-        &mut marks[..size],
+        &mut spare[..size],
         noted,
     );
 }

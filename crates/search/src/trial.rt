@@ -141,10 +141,10 @@ pub(crate) fn rules_out(
     fault: Fault,
     c: u8,
     known: &mut [u8],
-    marks: &mut [u8],
+    spare: &mut [u8],
 ) -> bool
     requires { ⌜ reading (now netlist) ≡ sound n (pinCount (now netlist)) ⌝ }
-    requires { ⌜ (n ≤ length (now known)) × (n ≤ length (now marks)) ⌝ }
+    requires { ⌜ (n ≤ length (now known)) × (n ≤ length (now spare)) ⌝ }
     ensures { λ r. ⌜ (r ≡ true → Redundant (now (netlist .entry)) fault c → ⊥) ⌝ }
 {
     let mut third = [0u8; NODES_AT_MOST];
@@ -156,7 +156,7 @@ pub(crate) fn rules_out(
         fault,
         c,
         &mut known[..end],
-        &mut marks[..end],
+        &mut spare[..end],
         &mut third[..end],
         &mut fourth[..end],
     )

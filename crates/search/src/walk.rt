@@ -1,4 +1,6 @@
 // The walk over splits: the first whose two branches close.
+// `known` and `spare` are the two work slices: the one has what is known in a window, the other what
+// the trace or a run needs besides.
 ghost use mathlib.Core.Path.{_≡_};
 ghost use mathlib.Core.Bool.{cond, false, true};
 ghost use mathlib.Core.Option.{none, some};
@@ -38,15 +40,15 @@ fn first_window(
     b: u8,
     f: u8,
     known: &mut [u8],
-    marks: &mut [u8],
+    spare: &mut [u8],
 ) -> u8
     requires { ⌜ reading (now netlist) ≡ sound n (pinCount (now netlist)) ⌝ }
     requires { ⌜ faultExists (netOf (now netlist)) fault ≡ true ⌝ }
     requires { ⌜ b + f + 1 ≤ mostFrames ⌝ }
-    requires { ⌜ (n ≤ length (now known)) × (n ≤ length (now marks)) ⌝ }
+    requires { ⌜ (n ≤ length (now known)) × (n ≤ length (now spare)) ⌝ }
     ensures { λ r. ⌜ (r ≤ b + 1) × (tryWindows (netOf (now (netlist .entry))) fault f r ≡ none) ⌝ }
 {
-    if rules_out(netlist, n, fault, b, known, marks) {
+    if rules_out(netlist, n, fault, b, known, spare) {
         return b + 1;
     }
     0
@@ -63,7 +65,7 @@ fn walk_splits(
     b: u8,
     f: u8,
     known: &mut [u8],
-    marks: &mut [u8],
+    spare: &mut [u8],
     noted: &mut [u8],
     fan: &[u16],
     trail: &mut [u16],
@@ -71,7 +73,7 @@ fn walk_splits(
     requires { ⌜ reading (now netlist) ≡ sound n (pinCount (now netlist)) ⌝ }
     requires { ⌜ faultExists (netOf (now netlist)) fault ≡ true ⌝ }
     requires { ⌜ b + f + 1 ≤ mostFrames ⌝ }
-    requires { ⌜ (length (now known) ≡ n * (b + f + 1)) × (length (now marks) ≡ n * (b + f + 1)) ⌝ }
+    requires { ⌜ (length (now known) ≡ n * (b + f + 1)) × (length (now spare) ≡ n * (b + f + 1)) ⌝ }
     requires { ⌜ NotedStayOpen (netOf (now netlist)) fault f (now noted) ⌝ }
     requires { ⌜ (from ≤ b + 1) × (tryWindows (netOf (now netlist)) fault f from ≡ none) ⌝ }
     ensures { λ r. ⌜ cond (leb (r .c) b) (some r) none ≡ firstSplit (netOf (now (netlist .entry))) fault b f ⌝ }
@@ -79,8 +81,8 @@ fn walk_splits(
 {
     let mut split = splits::first_of(from);
     while split.c <= b {
-        note_window(netlist, n, fault, b, f, split, known, marks, noted);
-        if closes(netlist, n, fault, f, split, known, marks, noted, fan, trail) {
+        note_window(netlist, n, fault, b, f, split, known, spare, noted);
+        if closes(netlist, n, fault, f, split, known, spare, noted, fan, trail) {
             return split;
         }
         split = split.next(n, f);
@@ -97,7 +99,7 @@ fn frame_open(
     f: u8,
     frame: u8,
     known: &mut [u8],
-    marks: &mut [u8],
+    spare: &mut [u8],
     noted: &mut [u8],
     fan: &[u16],
     trail: &mut [u16],
@@ -105,7 +107,7 @@ fn frame_open(
     requires { ⌜ reading (now netlist) ≡ sound n (pinCount (now netlist)) ⌝ }
     requires { ⌜ faultExists (netOf (now netlist)) fault ≡ true ⌝ }
     requires { ⌜ (c + f + 1 ≤ mostFrames) × (frame < c + f + 1) ⌝ }
-    requires { ⌜ (length (now known) ≡ n * (c + f + 1)) × (length (now marks) ≡ n * (c + f + 1)) ⌝ }
+    requires { ⌜ (length (now known) ≡ n * (c + f + 1)) × (length (now spare) ≡ n * (c + f + 1)) ⌝ }
     requires { ⌜ NotedStayOpen (netOf (now netlist)) fault f (now noted) ⌝ }
     ensures { λ r. ⌜ (r ≡ true → (m : ℕ) → m < n → splitCloses (netOf (now (netlist .entry))) fault f (split c frame m) ≡ false) ⌝ }
     ensures { λ _. ⌜ NotedStayOpen (netOf (now (netlist .entry))) fault f (now (noted .exit)) ⌝ }
@@ -113,7 +115,7 @@ fn frame_open(
     let mut node: u16 = 0;
     while node < n {
         let split = Split { c, frame, node };
-        if closes(netlist, n, fault, f, split, known, marks, noted, fan, trail) {
+        if closes(netlist, n, fault, f, split, known, spare, noted, fan, trail) {
             return false;
         }
         node += 1;
@@ -129,7 +131,7 @@ fn frames_open(
     b: u8,
     f: u8,
     known: &mut [u8],
-    marks: &mut [u8],
+    spare: &mut [u8],
     noted: &mut [u8],
     fan: &[u16],
     trail: &mut [u16],
@@ -137,7 +139,7 @@ fn frames_open(
     requires { ⌜ reading (now netlist) ≡ sound n (pinCount (now netlist)) ⌝ }
     requires { ⌜ faultExists (netOf (now netlist)) fault ≡ true ⌝ }
     requires { ⌜ b + f + 1 ≤ mostFrames ⌝ }
-    requires { ⌜ (length (now known) ≡ n * (b + f + 1)) × (length (now marks) ≡ n * (b + f + 1)) ⌝ }
+    requires { ⌜ (length (now known) ≡ n * (b + f + 1)) × (length (now spare) ≡ n * (b + f + 1)) ⌝ }
     requires { ⌜ NotedStayOpen (netOf (now netlist)) fault f (now noted) ⌝ }
     ensures { λ r. ⌜ (r ≡ true → (t m : ℕ) → t < b + f + 1 → m < n → splitCloses (netOf (now (netlist .entry))) fault f (split b t m) ≡ false) ⌝ }
     ensures { λ _. ⌜ NotedStayOpen (netOf (now (netlist .entry))) fault f (now (noted .exit)) ⌝ }
@@ -153,7 +155,7 @@ fn frames_open(
             f,
             frame,
             known,
-            marks,
+            spare,
             noted,
             fan,
             trail,
@@ -174,7 +176,7 @@ fn window_open(
     b: u8,
     f: u8,
     known: &mut [u8],
-    marks: &mut [u8],
+    spare: &mut [u8],
     noted: &mut [u8],
     fan: &[u16],
     trail: &mut [u16],
@@ -182,15 +184,15 @@ fn window_open(
     requires { ⌜ reading (now netlist) ≡ sound n (pinCount (now netlist)) ⌝ }
     requires { ⌜ faultExists (netOf (now netlist)) fault ≡ true ⌝ }
     requires { ⌜ b + f + 1 ≤ mostFrames ⌝ }
-    requires { ⌜ (length (now known) ≡ n * (b + f + 1)) × (length (now marks) ≡ n * (b + f + 1)) ⌝ }
+    requires { ⌜ (length (now known) ≡ n * (b + f + 1)) × (length (now spare) ≡ n * (b + f + 1)) ⌝ }
     requires { ⌜ NotedStayOpen (netOf (now netlist)) fault f (now noted) ⌝ }
     ensures { λ r. ⌜ (r ≡ true → (t m : ℕ) → t < b + f + 1 → m < n → splitCloses (netOf (now (netlist .entry))) fault f (split b t m) ≡ false) ⌝ }
     ensures { λ _. ⌜ NotedStayOpen (netOf (now (netlist .entry))) fault f (now (noted .exit)) ⌝ }
 {
     if asks_first(b, noted, known.len()) {
         let first = splits::first_of(b);
-        note_window(netlist, n, fault, b, f, first, known, marks, noted);
-        return frames_open(netlist, n, fault, b, f, known, marks, noted, fan, trail);
+        note_window(netlist, n, fault, b, f, first, known, spare, noted);
+        return frames_open(netlist, n, fault, b, f, known, spare, noted, fan, trail);
     }
     false
 }
@@ -205,7 +207,7 @@ fn search_windows(
     b: u8,
     f: u8,
     known: &mut [u8],
-    marks: &mut [u8],
+    spare: &mut [u8],
     noted: &mut [u8],
     fan: &[u16],
     trail: &mut [u16],
@@ -213,16 +215,16 @@ fn search_windows(
     requires { ⌜ reading (now netlist) ≡ sound n (pinCount (now netlist)) ⌝ }
     requires { ⌜ faultExists (netOf (now netlist)) fault ≡ true ⌝ }
     requires { ⌜ b + f + 1 ≤ mostFrames ⌝ }
-    requires { ⌜ (length (now known) ≡ n * (b + f + 1)) × (length (now marks) ≡ n * (b + f + 1)) ⌝ }
+    requires { ⌜ (length (now known) ≡ n * (b + f + 1)) × (length (now spare) ≡ n * (b + f + 1)) ⌝ }
     requires { ⌜ NotedStayOpen (netOf (now netlist)) fault f (now noted) ⌝ }
     requires { ⌜ (c ≤ b + 1) × (tryWindows (netOf (now netlist)) fault f c ≡ none) ⌝ }
     ensures { λ r. ⌜ cond (leb (r .c) b) (some r) none ≡ firstSplit (netOf (now (netlist .entry))) fault b f ⌝ }
     ensures { λ r. ⌜ (r .frame ≤ r .c + f) × (r .node < n) ⌝ }
 {
-    if window_open(netlist, n, fault, b, f, known, marks, noted, fan, trail) {
+    if window_open(netlist, n, fault, b, f, known, spare, noted, fan, trail) {
         return splits::first_of(b + 1);
     }
-    walk_splits(netlist, n, fault, c, b, f, known, marks, noted, fan, trail)
+    walk_splits(netlist, n, fault, c, b, f, known, spare, noted, fan, trail)
 }
 
 // The same with room for notes, fan-out lists and values that are tried, and with a guess.
@@ -234,12 +236,12 @@ fn search_from(
     b: u8,
     f: u8,
     known: &mut [u8],
-    marks: &mut [u8],
+    spare: &mut [u8],
 ) -> Split
     requires { ⌜ reading (now netlist) ≡ sound n (pinCount (now netlist)) ⌝ }
     requires { ⌜ faultExists (netOf (now netlist)) fault ≡ true ⌝ }
     requires { ⌜ b + f + 1 ≤ mostFrames ⌝ }
-    requires { ⌜ (length (now known) ≡ n * (b + f + 1)) × (length (now marks) ≡ n * (b + f + 1)) ⌝ }
+    requires { ⌜ (length (now known) ≡ n * (b + f + 1)) × (length (now spare) ≡ n * (b + f + 1)) ⌝ }
     requires { ⌜ (c ≤ b + 1) × (tryWindows (netOf (now netlist)) fault f c ≡ none) ⌝ }
     ensures { λ r. ⌜ cond (leb (r .c) b) (some r) none ≡ firstSplit (netOf (now (netlist .entry))) fault b f ⌝ }
     ensures { λ r. ⌜ (r .frame ≤ r .c + f) × (r .node < n) ⌝ }
@@ -257,7 +259,7 @@ fn search_from(
         b,
         f,
         known,
-        marks,
+        spare,
         &mut noted,
         &fan,
         &mut trail,
@@ -273,18 +275,18 @@ pub(crate) fn split_in_window(
     b: u8,
     f: u8,
     known: &mut [u8],
-    marks: &mut [u8],
+    spare: &mut [u8],
 ) -> Split
     requires { ⌜ reading (now netlist) ≡ sound n (pinCount (now netlist)) ⌝ }
     requires { ⌜ faultExists (netOf (now netlist)) fault ≡ true ⌝ }
     requires { ⌜ b + f + 1 ≤ mostFrames ⌝ }
-    requires { ⌜ (length (now known) ≡ n * (b + f + 1)) × (length (now marks) ≡ n * (b + f + 1)) ⌝ }
+    requires { ⌜ (length (now known) ≡ n * (b + f + 1)) × (length (now spare) ≡ n * (b + f + 1)) ⌝ }
     ensures { λ r. ⌜ cond (leb (r .c) b) (some r) none ≡ firstSplit (netOf (now (netlist .entry))) fault b f ⌝ }
     ensures { λ r. ⌜ (r .frame ≤ r .c + f) × (r .node < n) ⌝ }
 {
-    let first = first_window(netlist, n, fault, b, f, known, marks);
+    let first = first_window(netlist, n, fault, b, f, known, spare);
     if first > b {
         return splits::first_of(first);
     }
-    search_from(netlist, n, fault, first, b, f, known, marks)
+    search_from(netlist, n, fault, first, b, f, known, spare)
 }

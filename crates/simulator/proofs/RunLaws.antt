@@ -6,6 +6,7 @@ use mathlib.Core.Path.{_∙_, _≡_, ap, refl, sym}
 use Prim.Native.Nat.{_<_, suc, zero, ℕ}
 use native.Mathlib.Omega.{arith}
 use lib.ListN.{getD, length}
+use borrow.Author.Tests.{eq-eqb}
 use Rattle.simulator.proofs.ClockLaws.{given-kind, seenList-agree, seenNext}
 use Rattle.gates.proofs.GateLaws.{Binary, gate-binary, stuck-binary}
 use Rattle.values.proofs.ListLaws.{bcons, bnil}
@@ -131,7 +132,7 @@ module _ (c : Net) (s : StuckLines) where
   unfolding seenAfter InputBits LatchedBits
   seenAfter-binary x l hx hl =
       seen-binary (clockStart c x l)
-      (λ n p e. ⊎-elim (λ q. rw (start-input c x l n p q) (hx n p q)) (λ q. rw (start-latched c x l n p q) (hl n p q)) (given-kind (c .kind n) e))
+      (λ n p e. ⊎-elim (λ q. rw (start-input c x l n p q) (hx n p (eq-eqb (c .kind n) 0 q))) (λ q. rw (start-latched c x l n p q) (hl n p (eq-eqb (c .kind n) 2 q))) (given-kind (c .kind n) e))
 
   pub latchedAfter-binary : (x l : List ℕ) → InputBits c x → LatchedBits c l → LatchedBits c (latchedAfter c s x l)
   unfolding latchedAfter LatchedBits

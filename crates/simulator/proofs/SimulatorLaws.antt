@@ -1,6 +1,7 @@
 -- Laws of the simulator's answer: when it is done, and that it has then made one clock step of a run.
+use Rattle.netlist.proofs.NumberLaws.{tool-numbers}
 use mathlib.Core.Bool.{Bool, _&&_, _||_, false, not, true}
-use mathlib.Core.List.{List, [], _∷_}
+use mathlib.Core.List.{List, [], _∷_, List·Mem}
 use mathlib.Core.Logic.{⊎-elim}
 use mathlib.Core.Option.{Option, none, some}
 use mathlib.Core.Path.{_∙_, _≡_, ap, refl, subst, sym}
@@ -16,7 +17,7 @@ use Rattle.netlist.proofs.RefusalLaws.{FirstFails, NoneSmaller, Passed, refusal
 use Rattle.simulator.proofs.RunLaws.{SameAt, latchedAfter-binary, stepped-clock}
 use Rattle.netlist.proofs.SoundLaws.{answered-sound, sound-size}
 use Rattle.netlist.specs.Answer.{Answer, Outcome, answered, outcome, refusal, refused}
-use Rattle.simulator.specs.Clock.{SimulatorCall, placeFits, seenList, simulation, simulatorCall, simulatorTests, slicesFit, clockStep, turnedBack}
+use Rattle.simulator.specs.Clock.{SimulatorCall, done, placeFits, seenList, simulation, simulatorCall, simulatorTests, slicesFit, clockStep, clockRefused}
 use Rattle.simulator.specs.Inner.Places.{latchedInto, settled}
 use Rattle.simulator.specs.ClockLists.{ClockList, InputBits, LatchedBits, first-clock, latchedAfter, no-clocks, run, seenAfter}
 use Rattle.circuit.specs.Fault.{circuitExists, linesIn}
@@ -27,18 +28,18 @@ use Rattle.circuit.specs.declared.fault.Circuit.{Circuit}
 
 module _ (a : SimulatorCall) where
   abbrev tested : Option ℕ → Outcome
-  tested r = elim r [ some k ↦ turnedBack k a | none ↦ clockStep a ]
+  tested r = elim r [ some k ↦ clockRefused k a | none ↦ clockStep a ]
 
   abbrev read-then : Answer → Outcome
-  read-then r = elim r [ refused k ↦ turnedBack k a | answered _ ↦ tested (refusal simulatorTests a) ]
+  read-then r = elim r [ refused k ↦ clockRefused k a | answered _ ↦ tested (refusal simulatorTests a) ]
 
   -- an unsound netlist is turned back with the reader's number
-  pub simulation-unsound : (k : ℕ) → reading (a .netlist) ≡ refused k → simulation a ≡ turnedBack k a
+  pub simulation-unsound : (k : ℕ) → reading (a .netlist) ≡ refused k → simulation a ≡ clockRefused k a
   unfolding simulation
   simulation-unsound k e = ap read-then e
 
   -- a sound one with the number of the first test that fails
-  pub simulation-refused : {vs : List ℕ} (k : ℕ) → reading (a .netlist) ≡ answered vs → FirstFails a k simulatorTests → simulation a ≡ turnedBack k a
+  pub simulation-refused : {vs : List ℕ} (k : ℕ) → reading (a .netlist) ≡ answered vs → FirstFails a k simulatorTests → simulation a ≡ clockRefused k a
   unfolding simulation
   simulation-refused k e f = ap read-then e ∙ ap tested (refusal-at simulatorTests a k f)
 
@@ -50,6 +51,14 @@ module _ (a : SimulatorCall) where
 -- its tests stand in the order of their numbers, so the smallest number that applies is given
 pub simulation-smallest : (a : SimulatorCall) (k : ℕ) → FirstFails a k simulatorTests → NoneSmaller k simulatorTests a
 simulation-smallest a k f = refusal-smallest 0 simulatorTests a k (omega arith, (omega arith, tt)) f
+
+-- Demand 1: a refusal of THE SIMULATOR has one of these numbers and no other.
+pub simulation-numbers : (a : SimulatorCall) (k : ℕ) → simulation a .answer ≡ refused k → List·Mem k (1 ∷ 2 ∷ 3 ∷ 4 ∷ 5 ∷ 6 ∷ 7 ∷ 9 ∷ 16 ∷ [])
+unfolding simulation clockStep
+simulation-numbers a = tool-numbers (λ (o : Outcome). o .answer) simulatorTests a (a .netlist) (λ j. clockRefused j a) (clockStep a) [] (λ j. refl) no-refusal
+  where
+    no-refusal : (k : ℕ) → done ≡ refused k → List·Mem k []
+    no-refusal k e = absurd (let z : _≡_ {A = ℕ} 0 1 = cc in omega arith)
 
 -- the test of the slices, as it goes on from one part to the next
 module _ (c : Net) (v w : List ℕ) (n : ℕ) (e : n ≡ c .size) where
@@ -78,8 +87,8 @@ slices-fitting c first second e =
     record {
       first-size = eqb-true (length first) (c .size) (and-left (eqb (length first) (c .size)) (eqb (length second) (c .size) && every (placeFits c first) (c .size)) e);
       second-size = eqb-true (length second) (c .size) (and-left (eqb (length second) (c .size)) (every (placeFits c first) (c .size)) rest);
-      inputs = λ n h q. low n h (rw q);
-      latched = λ n h q. low n h (rw q);
+      inputs = λ n h q. low n h (rw (eqb-true (c .kind n) 0 q));
+      latched = λ n h q. low n h (rw (eqb-true (c .kind n) 2 q));
     }
   where
     rest : (eqb (length second) (c .size) && every (placeFits c first) (c .size)) ≡ true
@@ -98,7 +107,7 @@ fitting-slices c first second f =
     (every-by (placeFits c first) (c .size) (λ n h. go n h (isGiven (c .kind n)) refl))
   where
     low : (n : ℕ) → n < c .size → isGiven (c .kind n) ≡ true → at first n < 2
-    low n h q = ⊎-elim (f .inputs n h) (f .latched n h) (given-kind (c .kind n) q)
+    low n h q = ⊎-elim (λ z. f .inputs n h (eq-eqb (c .kind n) 0 z)) (λ z. f .latched n h (eq-eqb (c .kind n) 2 z)) (given-kind (c .kind n) q)
 
     go : (n : ℕ) → n < c .size → (b : Bool) → isGiven (c .kind n) ≡ b → (not b || leb (at first n) 1) ≡ true
     go n h true q = let l = low n h q in le-leb (at first n) 1 (omega arith)
@@ -151,8 +160,8 @@ done-clock a e =
     simulation-done a (d .sound-netlist) (d .passed) ∙ stepped-clock a (a .first) (a .first) (λ _ _ _. refl) (λ _ _ _. refl)
 
 module _ (bs : List ℕ) (circuit : Circuit) where
-  -- A call for a clock with the inputs x and the values l latched: both slices have N bytes, and the first holds inputs and latched values at
-  -- their places.
+  -- A call for a clock with the inputs x and the values l latched: both slices have N bytes, and the first holds inputs and latched values
+  -- at their places.
   pub record ClockCall (x l first second : List ℕ) : Type 0 where
     pub first-size : length first ≡ netOf bs .size
     pub second-size : length second ≡ netOf bs .size
@@ -178,8 +187,8 @@ module _ (bs : List ℕ) (circuit : Circuit) where
         record {
           first-size = k .first-size;
           second-size = k .second-size;
-          inputs = λ m h q. rw (k .inputs m h q) (hx m h q);
-          latched = λ m h q. rw (k .latched m h q) (hl m h q);
+          inputs = λ m h q. rw (k .inputs m h (eqb-true (netOf bs .kind m) 0 q)) (hx m h q);
+          latched = λ m h q. rw (k .latched m h (eqb-true (netOf bs .kind m) 2 q)) (hl m h q);
         } in
         simulation-done a e (exists, (fitting-slices (netOf bs) first second f, tt)) ∙ stepped-clock a x l (k .inputs) (k .latched)
 

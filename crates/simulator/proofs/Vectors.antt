@@ -3,7 +3,7 @@ use mathlib.Core.List.{[], _∷_}
 use mathlib.Core.Path.{_≡_, refl}
 use Prim.Native.Nat.{ℕ}
 use Rattle.netlist.specs.Answer.{answered, outcome}
-use Rattle.simulator.specs.Clock.{SimulatorCall, latchedBy, latchedList, pinValues, placeFits, seenBy, seenList, simulation, slicesFit, clockStep, turnedBack}
+use Rattle.simulator.specs.Clock.{SimulatorCall, latchedBy, latchedList, pinValues, placeFits, seenBy, seenList, simulation, slicesFit, clockStep, clockRefused}
 use Rattle.circuit.specs.Fault.{circuitExists, faultExists, linesIn, linesOf}
 use Rattle.gates.specs.Kind.{gate, ruleOf}
 use Rattle.values.specs.Lists.{build, every}
@@ -31,8 +31,8 @@ pub record Steps : Type 0 where
   pub stuck-node : simulation (p1-clock (stuck-at-1 2 Whole) 0 1 0) ≡ outcome (answered []) (0 ∷ 1 ∷ 1 ∷ 1 ∷ 1 ∷ 1 ∷ []) (0 ∷ 0 ∷ 0 ∷ 0 ∷ 0 ∷ 0 ∷ [])
   -- c's pin stuck at 1: c is seen as before and latches 1
   pub stuck-latch : simulation (p1-clock (stuck-at-1 2 (Pin 0)) 0 1 0) ≡ outcome (answered []) (0 ∷ 1 ∷ 0 ∷ 0 ∷ 0 ∷ 0 ∷ []) (0 ∷ 0 ∷ 1 ∷ 0 ∷ 0 ∷ 0 ∷ [])
-  pub pin-of-input : simulation (p1-clock (stuck-at-1 0 (Pin 0)) 1 1 0) ≡ turnedBack 9 (p1-clock (stuck-at-1 0 (Pin 0)) 1 1 0)
-  pub input-2 : simulation (p1-clock Good 2 1 0) ≡ turnedBack 16 (p1-clock Good 2 1 0)
+  pub pin-of-input : simulation (p1-clock (stuck-at-1 0 (Pin 0)) 1 1 0) ≡ clockRefused 9 (p1-clock (stuck-at-1 0 (Pin 0)) 1 1 0)
+  pub input-2 : simulation (p1-clock Good 2 1 0) ≡ clockRefused 16 (p1-clock Good 2 1 0)
 
 pub steps : Steps
 unfolding reading sizesAllowed every kindKnown pairJoined pairStart countFits ruleOf sourcesAllowed sourceAllowed sourceOf

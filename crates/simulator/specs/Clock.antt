@@ -63,8 +63,8 @@ abbrev pub done : Answer
 done = answered []
 
 -- a refusal alters nothing
-abbrev pub turnedBack : ℕ → SimulatorCall → Outcome
-turnedBack k a = outcome (refused k) (a .first) (a .second)
+abbrev pub clockRefused : ℕ → SimulatorCall → Outcome
+clockRefused k a = outcome (refused k) (a .first) (a .second)
 
 -- done: the first slice holds the seen values, the second the newly latched ones
 unfoldable pub clockStep : SimulatorCall → Outcome
@@ -78,8 +78,8 @@ clockStep a =
 unfoldable pub simulation : SimulatorCall → Outcome
 simulation a =
     elim (reading (a .netlist)) [
-      | refused k ↦ turnedBack k a
-      | answered _ ↦ elim (refusal simulatorTests a) [ some k ↦ turnedBack k a | none ↦ clockStep a ]
+      | refused k ↦ clockRefused k a
+      | answered _ ↦ elim (refusal simulatorTests a) [ some k ↦ clockRefused k a | none ↦ clockStep a ]
     ]
 
 -- the cases of the simulator's answer, in 01's terms

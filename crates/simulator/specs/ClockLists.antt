@@ -1,14 +1,14 @@
 -- 01, "Clock lists": a circuit that takes a list of clocks, each later clock step from what the one before latched.
 -- A clock is a list with a 0 or 1 at the place of every input node; latched values are a list with a 0 or 1 at every flip-flop's place.
 -- Places past a list's end count as 0.
-use mathlib.Core.Bool.{cond}
+use mathlib.Core.Bool.{cond, true}
 use mathlib.Core.List.{List, [], _∷_}
 use mathlib.Core.Path.{_≡_}
 use Prim.Native.Nat.{_<_, ℕ}
 use lib.ListN.{getD, take}
 use Rattle.simulator.specs.Clock.{latchedList, seenList}
 use Rattle.circuit.specs.Fault.{StuckLines}
-use Rattle.gates.specs.Kind.{isFlipFlop}
+use Rattle.gates.specs.Kind.{isFlipFlop, isInput}
 use Rattle.values.specs.Lists.{at}
 use Rattle.netlist.specs.Netlist.{Net}
 
@@ -44,11 +44,11 @@ module _ (net : Net) (s : StuckLines) where
 
 -- a 0 or 1 for every input node
 unfoldable pub InputBits : Net → List ℕ → Type 0
-InputBits net x = (n : ℕ) → n < net .size → net .kind n ≡ 0 → at x n < 2
+InputBits net x = (n : ℕ) → n < net .size → isInput (net .kind n) ≡ true → at x n < 2
 
 -- a 0 or 1 for every flip-flop
 unfoldable pub LatchedBits : Net → List ℕ → Type 0
-LatchedBits net l = (n : ℕ) → n < net .size → net .kind n ≡ 2 → at l n < 2
+LatchedBits net l = (n : ℕ) → n < net .size → isFlipFlop (net .kind n) ≡ true → at l n < 2
 
 -- a clock list: each clock has its inputs; it may be empty
 pub data ClockList (net : Net) : List (List ℕ) → Type 0 where

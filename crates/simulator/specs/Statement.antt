@@ -1,11 +1,13 @@
 -- THE STATEMENT of demand 3: what an accepted certificate says of a fault and c. Such a fault is c-cycle redundant by Definition 5 of
 -- FIRES, which lets the good circuit start in any state.
+use mathlib.Core.Bool.{true}
 use mathlib.Core.List.{List}
 use mathlib.Core.Path.{_≡_}
 use Prim.Native.Nat.{_+_, _<_, ℕ}
 use lib.ListN.{drop, length}
 use Rattle.simulator.specs.ClockLists.{ClockList, LatchedBits, latchedBefore, seenAt}
 use Rattle.circuit.specs.Fault.{StuckLines, linesOf, noneStuck}
+use Rattle.gates.specs.Kind.{isOutput}
 use Rattle.netlist.specs.Netlist.{Net, netOf}
 use Rattle.circuit.specs.declared.fault.Fault.{Fault}
 
@@ -20,7 +22,7 @@ EqualOutputs net faulted c =
     → (t n : ℕ)
     → c + t < length xs
     → n < net .size
-    → net .kind n ≡ 1
+    → isOutput (net .kind n) ≡ true
     → seenAt net faulted xs l (c + t) n ≡ seenAt net noneStuck (drop c xs) (latchedBefore net faulted c xs l) t n
 
 -- for a netlist's bytes and a fault

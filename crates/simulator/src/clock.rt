@@ -45,8 +45,8 @@ fn pin_value(netlist: &[u8], place: u32, circuit: Circuit, seen: &[u8], node: u1
     requires { ⌜ place ≡ 4 + 5 * nodeCount (now netlist) + 2 * offsetOf (now netlist) node ⌝ }
     ensures { λ r. ⌜ r ≡ stuckOr (linesIn circuit .pin node pin) (at (now (seen .entry)) (sourceOf (now (netlist .entry)) node pin)) ⌝ }
 {
-    let source = source_at(netlist, place, pin);
-    let value = byte_at(seen, source as usize);
+    let source = source_at(netlist, place, pin) as usize;
+    let value = byte_at(seen, source);
     stuck_or(stuck_pin(circuit, node, pin), value)
 }
 

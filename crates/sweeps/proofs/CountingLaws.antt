@@ -17,7 +17,7 @@ use Rattle.netlist.specs.Netlist.{Net}
 use Rattle.gates.specs.Value.{isUnknown, stuckOr}
 use Rattle.knowledge.proofs.HoldLaws.{place-within}
 use Rattle.knowledge.proofs.WindowLaws.{begin-cases, enter-cases}
-use Rattle.trace.specs.Trace.{mark}
+use Rattle.trace.specs.Trace.{oneIf}
 use Rattle.knowledge.specs.Window.{Branch, begin, enter, inForce, known, held}
 use Rattle.certificate.specs.declared.step.Step.{Step}
 use Rattle.sweeps.proofs.ReplayedLaws.{conclusion-within, says-new}
@@ -36,7 +36,7 @@ unknowns-all (suc m) = omega (arith, unknowns-all m)
 pub unknowns-set : (l : List ℕ) (i v d : ℕ) → i < length l → isUnknown (getD l i d) ≡ true → v < 2 → suc (unknowns (set l i v)) ≡ unknowns l
 unfolding unknowns
 unknowns-set [] i v d h e q = absurd (not-suc-le-zero h)
-unknowns-set (x ∷ xs) zero v d h e q = let a : mark (isUnknown v) ≡ 0 = rw (known-low v q) in let b : mark (isUnknown x) ≡ 1 = rw e in omega arith
+unknowns-set (x ∷ xs) zero v d h e q = let a : oneIf (isUnknown v) ≡ 0 = rw (known-low v q) in let b : oneIf (isUnknown x) ≡ 1 = rw e in omega arith
 unknowns-set (x ∷ xs) (suc i) v d h e q = omega (arith, unknowns-set xs i v d (le-of-suc-le-suc h) e q)
 
 -- what is unknown is not held, and was not concluded
@@ -53,7 +53,7 @@ module _ (net : Net) (o : Ordered net) (S : ℕ → StuckLines) (W : ℕ) where
   -- steps, unknown values and, while the branch is open, one more are together as many as there are places
   record Tally (b : Branch) : Type 0 where
     full : length (b .values) ≡ net .size * W
-    total : length (b .steps) + unknowns (b .values) + mark (not (b .closed)) ≡ net .size * W
+    total : length (b .steps) + unknowns (b .values) + oneIf (not (b .closed)) ≡ net .size * W
 
   enter-tally : (b : Branch) (n t i : ℕ) → n < net .size → t < W → i < suc (length (net .pins n)) → inForce net S n t ≡ true → Tally b → b .closed ≡ false
       → saysNothing (branches net S) net S b (concluded (branches net S) net S n t i b) ≡ false
@@ -142,7 +142,7 @@ module _ (net : Net) (o : Ordered net) (S : ℕ → StuckLines) (W : ℕ) where
           less (a .closed) now (g .total)
         where
           less : (u : Bool) → length (b .steps) + unknowns (b .values) + 1 ≡ net .size * W
-              → length (a .steps) + unknowns (a .values) + mark (not u) ≡ net .size * W → unknowns (b .values) < m
+              → length (a .steps) + unknowns (a .values) + oneIf (not u) ≡ net .size * W → unknowns (b .values) < m
           less true now w = omega (arith, now, l)
           less false now w = omega (arith, now, l)
 

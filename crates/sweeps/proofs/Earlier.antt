@@ -23,7 +23,7 @@ use Rattle.checker.proofs.VerdictLaws.{Allowed, next-step, no-step}
 use Rattle.knowledge.proofs.WindowLaws.{begin-cases, enter-cases}
 use Rattle.certificate.specs.declared.step.Step.{Step}
 use Rattle.checker.specs.Checker.{closes}
-use Rattle.trace.specs.Trace.{effectDies, latchedMarks, marksList, outputUntouched}
+use Rattle.trace.specs.Trace.{effectDies, latchedTouchedList, touchedList, outputUntouched}
 use Rattle.knowledge.specs.Window.{Branch, begin, conclusion, enter, hasRelation, inForce, known, outputConclusion, pinConclusion, pinFrame, presentBelow, held}
 use Rattle.sweeps.proofs.ReplayedLaws.{implied-allowed}
 use Rattle.sweeps.proofs.OpenSets.{open-says, open-set, open-shut, side-open}
@@ -63,8 +63,8 @@ module _ (net : Net) (f : StuckLines) (K : ℕ → ℕ → ℕ) where
   unfolding effectDies
   dies-earlier zero t D l = refl
   dies-earlier (suc F) t D l =
-      ap (λ (b : Bool). every (outputUntouched net (marksList net D (λ n. K n (suc t)) (at l))) (net .size) && b)
-      (dies-earlier F (suc t) noneStuck (latchedMarks net D (λ n. K n (suc t)) (at (marksList net D (λ n. K n (suc t)) (at l)))))
+      ap (λ (b : Bool). every (outputUntouched net (touchedList net D (λ n. K n (suc t)) (at l))) (net .size) && b)
+      (dies-earlier F (suc t) noneStuck (latchedTouchedList net D (λ n. K n (suc t)) (at (touchedList net D (λ n. K n (suc t)) (at l)))))
 
   -- THE law: a shut set of the window of c + 1 is one of the window of c, one frame earlier
   pub shut-earlier : (c W : ℕ) → Shut net (presentBelow (suc c) f) (suc W) K → Shut net (presentBelow c f) W (λ n t. K n (suc t))

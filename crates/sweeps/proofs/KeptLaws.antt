@@ -14,7 +14,7 @@ use Rattle.netlist.specs.Answer.{Answer, numberOf}
 use Rattle.circuit.specs.Fault.{StuckLines, faultExists, linesOf}
 use Rattle.netlist.specs.Netlist.{Net, netOf, reading, sound}
 use Rattle.circuit.specs.declared.fault.Fault.{Fault}
-use Rattle.trace.proofs.MarkLaws.{tracing-long}
+use Rattle.trace.proofs.TouchedLaws.{tracing-long}
 use Rattle.certificate.specs.Certificate.{headLength}
 use Rattle.checker.specs.Checker.{closes}
 use Rattle.trace.specs.Inner.Tracing.{Traced, tracing}
@@ -22,16 +22,16 @@ use Rattle.knowledge.specs.Inner.Slice.{knownIn}
 use Rattle.knowledge.specs.Window.{presentBelow, mostFrames}
 use Rattle.sweeps.proofs.CountingLaws.{implied-few}
 use Rattle.sweeps.proofs.GuessLaws.{guess-open}
-use Rattle.sweeps.proofs.OpenSets.{open-marks-in}
+use Rattle.sweeps.proofs.OpenSets.{open-knows-in}
 use Rattle.sweeps.proofs.TrialLaws.{bytes-hold, certifying-stands, has-held, slices-fit-says, trying-stands}
-use Rattle.sweeps.specs.Inner.Trials.{Certified, Tried, certified, certifying, following, hasHeld, lastBranch, opening, slicesFit, sweptOnce, tried, trying, windowBytes, windowStands}
+use Rattle.sweeps.specs.Inner.Trials.{Certified, Tried, certified, certifying, following, hasHeld, lastBranch, opening, workFits, sweptOnce, tried, trying, windowBytes, windowStands}
 use Rattle.sweeps.specs.Inner.Work.{KeptOpen, Work}
 use Rattle.sweeps.specs.Splits.{branchOf, certificateFor, splitCloses, stepCount}
 use Rattle.certificate.specs.Written.{written}
 use Rattle.splits.specs.declared.split.Split.{Split}
 
 -- THE law of sets that are said to be open
-module _ (bs : List ℕ) (o : Ordered (netOf bs)) (f : Fault) (c F : ℕ) (values marks : List ℕ) where
+module _ (bs : List ℕ) (o : Ordered (netOf bs)) (f : Fault) (c F : ℕ) (values touched : List ℕ) where
   abbrev N : ℕ
   N = netOf bs .size
 
@@ -39,30 +39,30 @@ module _ (bs : List ℕ) (o : Ordered (netOf bs)) (f : Fault) (c F : ℕ) (value
   swept = sweptOnce (netOf bs) f c F values
 
   trace : Traced
-  trace = tracing (netOf bs) (linesOf f) c F (knownIn (swept .known) N) marks
+  trace = tracing (netOf bs) (linesOf f) c F (knownIn (swept .known) N) touched
 
   stepped : Bool → Tried
-  stepped q = cond q (tried (not (trace .dies)) (swept .known) (trace .marks)) (tried false (swept .known) marks)
+  stepped q = cond q (tried (not (trace .dies)) (swept .known) (trace .touched)) (tried false (swept .known) touched)
 
   chosen : Bool → Tried
-  chosen q = cond q (stepped (eqb (swept .steps) 0)) (tried false values marks)
+  chosen q = cond q (stepped (eqb (swept .steps) 0)) (tried false values touched)
 
   Kept : Tried → Type 0
   Kept t = t .answer ≡ true → KeptOpen (netOf bs) f F c (t .known)
 
-  pub open-set-kept : opening bs f c F values marks .answer ≡ true → KeptOpen (netOf bs) f F c (opening bs f c F values marks .known)
+  pub open-set-kept : opening bs f c F values touched .answer ≡ true → KeptOpen (netOf bs) f F c (opening bs f c F values touched .known)
   unfolding opening following swept trace stepped chosen Kept
-  open-set-kept = go (slicesFit N c F values marks) (hasHeld N f c values) refl refl
+  open-set-kept = go (workFits N c F values touched) (hasHeld N f c values) refl refl
     where
-      still : slicesFit N c F values marks ≡ true → hasHeld N f c values ≡ true → (q : Bool) → eqb (swept .steps) 0 ≡ q → Kept (stepped q)
+      still : workFits N c F values touched ≡ true → hasHeld N f c values ≡ true → (q : Bool) → eqb (swept .steps) 0 ≡ q → Kept (stepped q)
       still s h false q a = absurd (false≢true a)
       still s h true q a =
           let room : N * (F + 1) ≤ N * (c + F + 1) = mul-le-mul-left N (omega arith) in
-          let long = tracing-long (netOf bs) (linesOf f) c F (knownIn (swept .known) N) marks (omega (arith, room, slices-fit-says N c F values marks s .2)) in
+          let long = tracing-long (netOf bs) (linesOf f) c F (knownIn (swept .known) N) touched (omega (arith, room, slices-fit-says N c F values touched s .2)) in
           guess-open (netOf bs) o f F c values [] swept refl (eqb-true _ _ q) (has-held N f c values h)
           (ap (λ (t : Traced). t .dies) long ∙ not-true (trace .dies) a)
 
-      go : (s h : Bool) → slicesFit N c F values marks ≡ s → hasHeld N f c values ≡ h → Kept (chosen (s && h))
+      go : (s h : Bool) → workFits N c F values touched ≡ s → hasHeld N f c values ≡ h → Kept (chosen (s && h))
       go true true s h = still s h (eqb (swept .steps) 0) refl
       go true false s h = λ a. absurd (false≢true a)
       go false h₀ s h = λ a. absurd (false≢true a)
@@ -91,7 +91,7 @@ module _ (net : Net) (o : Ordered net) (f : Fault) (F : ℕ) (s : Split) (hn : s
   last-kept = go (side 0) refl
     where
       kept : (v : ℕ) → v < 2 → side v ≡ false → KeptOpen net f F (s .c) (windowBytes net S W (branchOf net f F s v .values))
-      kept v h e = open-marks-in net o f F s v hn ht h e (windowBytes net S W (branchOf net f F s v .values)) (bytes-hold net S W (branchOf net f F s v .values))
+      kept v h e = open-knows-in net o f F s v hn ht h e (windowBytes net S W (branchOf net f F s v .values)) (bytes-hold net S W (branchOf net f F s v .values))
 
       go : (q : Bool) → side 0 ≡ q → (q && side 1) ≡ false → KeptOpen net f F (s .c) (windowBytes net S W (branchOf net f F s (cond q 1 0) .values))
       go true e z = kept 1 (omega arith) z
@@ -111,11 +111,11 @@ module _ (bs : List ℕ) (n p : ℕ) (sounds : reading bs ≡ sound n p) (f : Fa
   holds : windowStands bs f F s (length values) ≡ true
   holds = window-stands bs n p sounds f F s (length values) exists short ht hn size
 
-  pub trial-says : (marks : List ℕ) → length marks ≡ length values → (r : Bool) (k m : List ℕ) → tried r k m ≡ trying bs f F s values marks
+  pub trial-says : (touched : List ℕ) → length touched ≡ length values → (r : Bool) (k m : List ℕ) → tried r k m ≡ trying bs f F s values touched
       → (r ≡ splitCloses (netOf bs) f F s)
       × (k ≡ windowBytes (netOf bs) (presentBelow (s .c) (linesOf f)) (s .c + F + 1) (lastBranch (netOf bs) f F s .values))
-  trial-says marks g r k m e =
-      let done = e ∙ sym (trying-stands bs f F s values marks holds g) in
+  trial-says touched g r k m e =
+      let done = e ∙ sym (trying-stands bs f F s values touched holds g) in
       (ap (λ (t : Tried). t .answer) done, ap (λ (t : Tried). t .known) done)
 
   pub certificate-says : (certificate : List ℕ) → headLength + 14 * length values ≤ length certificate → (r : ℕ) (k x : List ℕ)

@@ -14,4 +14,3 @@ pub mod TrialLaws
 pub mod KeptLaws
 pub mod GuessLaws
 pub mod PartLaws
-pub mod WindowSize

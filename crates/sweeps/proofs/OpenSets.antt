@@ -102,10 +102,10 @@ side-open net f F s y l e = go y l e
 module _ (net : Net) (o : Ordered net) (f : Fault) (F : ℕ) (s : Split) (v : ℕ) (hn : s .node < net .size) (ht : s .frame < s .c + F + 1) (hv : v < 2)
     (stays : closes net (linesOf f) (s .c) F (branchOf net f F s v) ≡ false) where
   -- each value that the branch knows in the end, as a split, has a branch that does not close
-  pub open-marks : (m u y : ℕ) → m < net .size → known net (presentBelow (s .c) (linesOf f)) (branchOf net f F s v .values) m u ≡ y
+  pub open-knows : (m u y : ℕ) → m < net .size → known net (presentBelow (s .c) (linesOf f)) (branchOf net f F s v .values) m u ≡ y
       → closes net (linesOf f) (s .c) F (branchOf net f F (split (s .c) u m) y) ≡ false
   unfolding branchOf
-  open-marks m u y h e =
+  open-knows m u y h e =
       open-set net o (linesOf f) (s .c) F (s .c + F + 1) (known net (presentBelow (s .c) (linesOf f)) (branchOf net f F s v .values))
       (open-shut net o (linesOf f) (s .c) F (s .c + F + 1) (s .node) (s .frame) v hn ht hv stays)
       (open-says net o (linesOf f) (s .c) F (s .c + F + 1) (branchOf net f F s v) stays .1)
@@ -114,10 +114,10 @@ module _ (net : Net) (o : Ordered net) (f : Fault) (F : ℕ) (s : Split) (v : �
   -- so the split there does not close
   pub open-split : (m u y : ℕ) → m < net .size → y < 2 → known net (presentBelow (s .c) (linesOf f)) (branchOf net f F s v .values) m u ≡ y
       → splitCloses net f F (split (s .c) u m) ≡ false
-  open-split m u y h l e = side-open net f F (split (s .c) u m) y l (open-marks m u y h e)
+  open-split m u y h l e = side-open net f F (split (s .c) u m) y l (open-knows m u y h e)
 
   -- the same of the bytes that hold what the branch knows: where they have 0 or 1, the split does not close
-  pub open-marks-in : (bytes : List ℕ) → Holds net (presentBelow (s .c) (linesOf f)) (s .c + F + 1) (branchOf net f F s v .values) bytes
+  pub open-knows-in : (bytes : List ℕ) → Holds net (presentBelow (s .c) (linesOf f)) (s .c + F + 1) (branchOf net f F s v .values) bytes
       → KeptOpen net f F (s .c) bytes
   unfolding Holds KeptOpen
-  open-marks-in bytes holds m u h g l = open-split m u (at bytes (u * net .size + m)) h l (sym (holds m u h g))
+  open-knows-in bytes holds m u h g l = open-split m u (at bytes (u * net .size + m)) h l (sym (holds m u h g))

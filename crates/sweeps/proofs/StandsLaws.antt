@@ -21,7 +21,7 @@ use Rattle.checker.proofs.ReplayLaws.{begin-full}
 use Rattle.knowledge.specs.Window.{Branch, begin, conclusion, enter, inForce, known, presentBelow, mostFrames}
 use Rattle.knowledge.specs.Inner.Slice.{Entered, Holds, beginAt, beginIn, entered, holdFrames, knownIn}
 use Rattle.checker.specs.Checker.{closes}
-use Rattle.trace.specs.Trace.{effectDies, mark}
+use Rattle.trace.specs.Trace.{effectDies, oneIf}
 use Rattle.certificate.specs.declared.step.Step.{Step}
 use Rattle.sweeps.proofs.ReplayedLaws.{begin-steps, conclusion-within, enter-steps}
 use Rattle.sweeps.proofs.RisingLaws.{rising-together}
@@ -195,7 +195,7 @@ module _ (net : Net) (o : Ordered net) (f : Fault) (c W : ℕ) (run : List ℕ) 
       inside : place < length bytes
       inside = omega (arith, bytes-length, place-within (net .size) W n t hn ht)
 
-      go : (q : Bool) → 0 + unknowns (entry q .bytes) + mark (not (entry q .closed)) ≤ net .size * W
+      go : (q : Bool) → 0 + unknowns (entry q .bytes) + oneIf (not (entry q .closed)) ≤ net .size * W
       go true = omega (arith, unknowns-most bytes, bytes-length)
       go false =
           let e : at (set bytes place v) place ≡ v = getD-set-same bytes place v 0 inside in

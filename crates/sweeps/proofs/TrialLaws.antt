@@ -26,7 +26,7 @@ use Rattle.knowledge.specs.Window.{known, presentBelow, mostFrames}
 use Rattle.certificate.specs.Certificate.{headLength}
 use Rattle.trace.specs.Inner.Tracing.{Traced, tracing}
 use Rattle.sweeps.proofs.GuessLaws.{held-all, held-nowhere}
-use Rattle.sweeps.specs.Inner.Trials.{Tried, certified, certifying, following, hasHeld, lastBranch, noting, notingOpen, opening, slicesFit, sweptOnce, tried, trying, windowBytes, windowStands}
+use Rattle.sweeps.specs.Inner.Trials.{Tried, certified, certifying, following, hasHeld, lastBranch, noting, notingOpen, opening, workFits, sweptOnce, tried, trying, windowBytes, windowStands}
 use Rattle.splits.specs.Inner.NoteBytes.{notedWith}
 use Rattle.sweeps.specs.Inner.Work.{HasHeld, Work}
 use Rattle.sweeps.specs.Splits.{certificateFor, splitCloses, stepCount}
@@ -131,11 +131,11 @@ tried-same {a} {b} {k} {l} {m} {n} e f g =
     ap (λ (x : Bool). tried x k m) e ∙ ap (λ (x : List ℕ). tried b x m) f ∙ ap (tried b l) g
 
 module _ (bs : List ℕ) (f : Fault) (F : ℕ) (s : Split) (values : List ℕ) where
-  pub trying-stands : (marks : List ℕ) → windowStands bs f F s (length values) ≡ true → length marks ≡ length values
-      → tried (splitCloses (netOf bs) f F s) (windowBytes (netOf bs) (presentBelow (s .c) (linesOf f)) (s .c + F + 1) (lastBranch (netOf bs) f F s .values)) (replicate (length marks) 0)
-      ≡ trying bs f F s values marks
+  pub trying-stands : (touched : List ℕ) → windowStands bs f F s (length values) ≡ true → length touched ≡ length values
+      → tried (splitCloses (netOf bs) f F s) (windowBytes (netOf bs) (presentBelow (s .c) (linesOf f)) (s .c + F + 1) (lastBranch (netOf bs) f F s .values)) (replicate (length touched) 0)
+      ≡ trying bs f F s values touched
   unfolding trying
-  trying-stands marks e g = rw (e, eq-eqb _ _ g)
+  trying-stands touched e g = rw (e, eq-eqb _ _ g)
 
   -- the certificate is written
   pub certifying-stands : (certificate : List ℕ) → windowStands bs f F s (length values) ≡ true → headLength + 14 * length values ≤ length certificate
@@ -183,36 +183,36 @@ pub no-bytes : (l : List ℕ) → length l ≡ 0 → l ≡ []
 no-bytes [] e = refl
 no-bytes (x ∷ l) e = absurd (omega arith)
 
-pub slices-fit-says : (N c F : ℕ) (values marks : List ℕ) → slicesFit N c F values marks ≡ true
-    → (c + F + 1 ≤ mostFrames) × (length values ≡ N * (c + F + 1)) × (length marks ≡ N * (c + F + 1))
-unfolding slicesFit
-slices-fit-says N c F values marks e =
+pub slices-fit-says : (N c F : ℕ) (values touched : List ℕ) → workFits N c F values touched ≡ true
+    → (c + F + 1 ≤ mostFrames) × (length values ≡ N * (c + F + 1)) × (length touched ≡ N * (c + F + 1))
+unfolding workFits
+slices-fit-says N c F values touched e =
     let v = eqb (length values) (N * (c + F + 1)) in
-    let m = eqb (length marks) (N * (c + F + 1)) in
+    let m = eqb (length touched) (N * (c + F + 1)) in
     let w = leb (c + F + 1) mostFrames in
     let r = and-right w (v && m) e in
     (leb-true _ _ (and-left w (v && m) e), eqb-true _ _ (and-left v m r), eqb-true _ _ (and-right v m r))
 
-module _ (net : Net) (f : Fault) (c F : ℕ) (w : Work) (marks : List ℕ) where
+module _ (net : Net) (f : Fault) (c F : ℕ) (w : Work) (touched : List ℕ) where
   -- a sweep has made a step
-  pub following-moved : 0 < w .steps → tried false (w .known) marks ≡ following net f c F w marks
+  pub following-moved : 0 < w .steps → tried false (w .known) touched ≡ following net f c F w touched
   unfolding following
   following-moved h = let d : (w .steps ≡ 0 → ⊥) = omega arith in rw (ne-eqb _ _ d)
 
   -- it has made none, and the effect was followed
-  pub following-still : w .steps ≡ 0 → (t : Traced) → t ≡ tracing net (linesOf f) c F (knownIn (w .known) (net .size)) marks
-      → tried (not (t .dies)) (w .known) (t .marks) ≡ following net f c F w marks
+  pub following-still : w .steps ≡ 0 → (t : Traced) → t ≡ tracing net (linesOf f) c F (knownIn (w .known) (net .size)) touched
+      → tried (not (t .dies)) (w .known) (t .touched) ≡ following net f c F w touched
   unfolding following
-  following-still z t e = rw (eq-eqb _ _ z) (ap (λ (x : Traced). tried (not (x .dies)) (w .known) (x .marks)) e)
+  following-still z t e = rw (eq-eqb _ _ z) (ap (λ (x : Traced). tried (not (x .dies)) (w .known) (x .touched)) e)
 
-module _ (bs : List ℕ) (f : Fault) (c F : ℕ) (values marks : List ℕ) where
-  pub opening-swept : slicesFit (netOf bs .size) c F values marks ≡ true → hasHeld (netOf bs .size) f c values ≡ true
+module _ (bs : List ℕ) (f : Fault) (c F : ℕ) (values touched : List ℕ) where
+  pub opening-swept : workFits (netOf bs .size) c F values touched ≡ true → hasHeld (netOf bs .size) f c values ≡ true
       → (w : Work) → w ≡ sweptOnce (netOf bs) f c F values
-      → following (netOf bs) f c F w marks ≡ opening bs f c F values marks
+      → following (netOf bs) f c F w touched ≡ opening bs f c F values touched
   unfolding opening
-  opening-swept e h w q = rw (e, h) (ap (λ (x : Work). following (netOf bs) f c F x marks) q)
+  opening-swept e h w q = rw (e, h) (ap (λ (x : Work). following (netOf bs) f c F x touched) q)
 
-  pub noting-by : (noted : List ℕ) (b : Bool) (k l : List ℕ) → tried b k l ≡ opening bs f c F values marks
-      → noting (tried b k l) (cond b (notedWith k c noted) noted) ≡ notingOpen bs f c F values marks noted
+  pub noting-by : (noted : List ℕ) (b : Bool) (k l : List ℕ) → tried b k l ≡ opening bs f c F values touched
+      → noting (tried b k l) (cond b (notedWith k c noted) noted) ≡ notingOpen bs f c F values touched noted
   unfolding notingOpen
   noting-by noted b k l e = ap (λ (t : Tried). noting t (cond (t .answer) (notedWith (t .known) c noted) noted)) e

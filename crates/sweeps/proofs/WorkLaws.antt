@@ -16,7 +16,7 @@ use Rattle.gates.specs.Kind.{controlling, gate, ruleOf}
 use Rattle.values.specs.Lists.{at}
 use Rattle.netlist.specs.Netlist.{Net}
 use Rattle.gates.specs.Value.{isUnknown, neg}
-use Rattle.trace.specs.Trace.{mark}
+use Rattle.trace.specs.Trace.{oneIf}
 use Rattle.knowledge.specs.Inner.Slice.{Entered, enterAt, entered, knownIn}
 use Rattle.knowledge.specs.Window.{conclusion, inForce, pinConclusion, pinFrame}
 use Rattle.certificate.specs.declared.step.Step.{Step}
@@ -83,7 +83,7 @@ unfolding unknowns
 unknowns-most [] = omega arith
 unknowns-most (x ∷ xs) = let r = unknowns-most xs in go (isUnknown x) r
   where
-    go : (b : Bool) → unknowns xs ≤ length xs → mark b + unknowns xs ≤ suc (length xs)
+    go : (b : Bool) → unknowns xs ≤ length xs → oneIf b + unknowns xs ≤ suc (length xs)
     go true r = omega arith
     go false r = omega arith
 
@@ -91,10 +91,10 @@ unknowns-most (x ∷ xs) = let r = unknowns-most xs in go (isUnknown x) r
 pub unknowns-fewer : (l : List ℕ) (i : ℕ) → i < length l → at l i < 2 → unknowns l < length l
 unfolding unknowns
 unknowns-fewer [] i h k = absurd (not-suc-le-zero h)
-unknowns-fewer (x ∷ xs) zero h k = let a : mark (isUnknown x) ≡ 0 = ap mark (known-low x k) in let r = unknowns-most xs in omega arith
+unknowns-fewer (x ∷ xs) zero h k = let a : oneIf (isUnknown x) ≡ 0 = ap oneIf (known-low x k) in let r = unknowns-most xs in omega arith
 unknowns-fewer (x ∷ xs) (suc i) h k = let r = unknowns-fewer xs i (le-of-suc-le-suc h) k in go (isUnknown x) r
   where
-    go : (b : Bool) → unknowns xs < length xs → mark b + unknowns xs < suc (length xs)
+    go : (b : Bool) → unknowns xs < length xs → oneIf b + unknowns xs < suc (length xs)
     go true r = omega arith
     go false r = omega arith
 
@@ -109,21 +109,21 @@ steps-within w = omega arith
 
 pub steps-below : (w : Work) → w .closed ≡ false → w .steps < tally w
 unfolding tally
-steps-below w e = let a : mark (not (w .closed)) ≡ 1 = ap (λ (b : Bool). mark (not b)) e in omega arith
+steps-below w e = let a : oneIf (not (w .closed)) ≡ 1 = ap (λ (b : Bool). oneIf (not b)) e in omega arith
 
 -- a step that is taken uses up an unknown value, or the branch being open
 take-tally : (N : ℕ) (w : Work) (s : Step) → w .closed ≡ false → s .value < 2 → tally (takeIn N w s) ≡ tally w
 unfolding tally takeIn
 take-tally N w s e h = go (isUnknown (at (w .known) (s .frame * N + s .node))) refl
   where
-    was : w .steps + unknowns (w .known) + mark (not (w .closed)) ≡ w .steps + unknowns (w .known) + 1
-    was = ap (λ (b : Bool). w .steps + unknowns (w .known) + mark (not b)) e
+    was : w .steps + unknowns (w .known) + oneIf (not (w .closed)) ≡ w .steps + unknowns (w .known) + 1
+    was = ap (λ (b : Bool). w .steps + unknowns (w .known) + oneIf (not b)) e
 
     then : Bool → Entered
     then q = cond q (entered false (set (w .known) (s .frame * N + s .node) (s .value))) (entered true (w .known))
 
     go : (q : Bool) → isUnknown (at (w .known) (s .frame * N + s .node)) ≡ q
-        → w .steps + 1 + unknowns (then q .bytes) + mark (not (then q .closed)) ≡ w .steps + unknowns (w .known) + mark (not (w .closed))
+        → w .steps + 1 + unknowns (then q .bytes) + oneIf (not (then q .closed)) ≡ w .steps + unknowns (w .known) + oneIf (not (w .closed))
     go true q = let r = unknowns-set (w .known) (s .frame * N + s .node) (s .value) 0 (unknown-inside (w .known) (s .frame * N + s .node) q) q h in omega (arith, r, was)
     go false q = omega (arith, was)
 

@@ -61,20 +61,20 @@ fn branch_closes(
     split: Split,
     v: u8,
     known: &mut [u8],
-    marks: &mut [u8],
+    touched: &mut [u8],
 ) -> bool
     requires { ⌜ reading (now netlist) ≡ sound n (pinCount (now netlist)) ⌝ }
     requires { ⌜ faultExists (netOf (now netlist)) fault ≡ true ⌝ }
     requires { ⌜ (split .c + f + 1 ≤ mostFrames) × (split .frame < split .c + f + 1) × (split .node < n) × (v < 2) ⌝ }
-    requires { ⌜ (length (now known) ≡ n * (split .c + f + 1)) × (length (now marks) ≡ n * (split .c + f + 1)) ⌝ }
+    requires { ⌜ (length (now known) ≡ n * (split .c + f + 1)) × (length (now touched) ≡ n * (split .c + f + 1)) ⌝ }
     ensures { λ r. ⌜ r ≡ closes (netOf (now (netlist .entry))) (linesOf fault) (split .c) f (branchOf (netOf (now (netlist .entry))) fault f split v) ⌝ }
     ensures { λ _. ⌜ now (known .exit) ≡ windowBytes (netOf (now (netlist .entry))) (presentBelow (split .c) (linesOf fault)) (split .c + f + 1) (branchOf (netOf (now (netlist .entry))) fault f split v .values) ⌝ }
 {
-    let done = work_branch(netlist, n, fault, f, split, v, known, &mut marks[..0]);
+    let done = work_branch(netlist, n, fault, f, split, v, known, &mut touched[..0]);
     if done.closed {
         return true;
     }
-    trace::effect_dies(netlist, fault, split.c, f, known, marks)
+    trace::effect_dies(netlist, fault, split.c, f, known, touched)
 }
 
 // Whether both branches of a split close, in slices of the window's size. Branch 1 is worked out only
@@ -86,17 +86,17 @@ fn branches_close(
     f: u8,
     split: Split,
     known: &mut [u8],
-    marks: &mut [u8],
+    touched: &mut [u8],
 ) -> bool
     requires { ⌜ reading (now netlist) ≡ sound n (pinCount (now netlist)) ⌝ }
     requires { ⌜ faultExists (netOf (now netlist)) fault ≡ true ⌝ }
     requires { ⌜ (split .c + f + 1 ≤ mostFrames) × (split .frame < split .c + f + 1) × (split .node < n) ⌝ }
-    requires { ⌜ (length (now known) ≡ n * (split .c + f + 1)) × (length (now marks) ≡ n * (split .c + f + 1)) ⌝ }
+    requires { ⌜ (length (now known) ≡ n * (split .c + f + 1)) × (length (now touched) ≡ n * (split .c + f + 1)) ⌝ }
     ensures { λ r. ⌜ r ≡ splitCloses (netOf (now (netlist .entry))) fault f split ⌝ }
     ensures { λ _. ⌜ now (known .exit) ≡ windowBytes (netOf (now (netlist .entry))) (presentBelow (split .c) (linesOf fault)) (split .c + f + 1) (lastBranch (netOf (now (netlist .entry))) fault f split .values) ⌝ }
 {
-    branch_closes(netlist, n, fault, f, split, 0, known, marks)
-        && branch_closes(netlist, n, fault, f, split, 1, known, marks)
+    branch_closes(netlist, n, fault, f, split, 0, known, touched)
+        && branch_closes(netlist, n, fault, f, split, 1, known, touched)
 }
 
 // Whether both branches of a split close. What is known in the branch worked out last is left in the one
@@ -107,18 +107,18 @@ pub fn both_close(
     f: u8,
     split: Split,
     known: &mut [u8],
-    marks: &mut [u8],
+    touched: &mut [u8],
 ) -> bool
-    ensures { λ r. ⌜ tried r (now (known .exit)) (now (marks .exit)) ≡ trying (now (netlist .entry)) fault f split (now (known .entry)) (now (marks .entry)) ⌝ }
+    ensures { λ r. ⌜ tried r (now (known .exit)) (now (touched .exit)) ≡ trying (now (netlist .entry)) fault f split (now (known .entry)) (now (touched .entry)) ⌝ }
 {
     if !window_stands(netlist, fault, f, split, known.len()) {
         return false;
     }
-    if marks.len() != known.len() {
+    if touched.len() != known.len() {
         return false;
     }
     let n = netlist::node_count(netlist);
-    let both = branches_close(netlist, n, fault, f, split, known, marks);
-    values::fill(marks, 0);
+    let both = branches_close(netlist, n, fault, f, split, known, touched);
+    values::fill(touched, 0);
     both
 }

@@ -12,12 +12,12 @@ pub fn note_open(
     c: u8,
     f: u8,
     known: &mut [u8],
-    marks: &mut [u8],
+    touched: &mut [u8],
     noted: &mut [u8],
 ) -> bool
-    ensures { λ r. ⌜ noting (tried r (now (known .exit)) (now (marks .exit))) (now (noted .exit)) ≡ notingOpen (now (netlist .entry)) fault c f (now (known .entry)) (now (marks .entry)) (now (noted .entry)) ⌝ }
+    ensures { λ r. ⌜ noting (tried r (now (known .exit)) (now (touched .exit))) (now (noted .exit)) ≡ notingOpen (now (netlist .entry)) fault c f (now (known .entry)) (now (touched .entry)) (now (noted .entry)) ⌝ }
 {
-    if !is_open_set(netlist, fault, c, f, known, marks) {
+    if !is_open_set(netlist, fault, c, f, known, touched) {
         return false;
     }
     note_known(known, c, noted);

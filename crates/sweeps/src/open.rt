@@ -1,6 +1,6 @@
 // Sets of values that keep each of their values open as a split.
 ghost use mathlib.Core.Path.{_≡_};
-ghost use Rattle.sweeps.specs.Inner.Trials.{hasHeld, opening, slicesFit, tried};
+ghost use Rattle.sweeps.specs.Inner.Trials.{hasHeld, opening, workFits, tried};
 use crate::sweep::Progress;
 use crate::sweep::sweep_once;
 use circuit::Circuit;
@@ -29,8 +29,8 @@ fn holds_fault(n: u16, fault: Fault, c: u8, known: &[u8]) -> bool
 }
 
 // Whether there are slices for the window of c: not too many frames, with so many places each.
-fn slices_fit(n: u16, c: u8, f: u8, known: &[u8], marks: &[u8]) -> bool
-    ensures { λ r. ⌜ r ≡ slicesFit n c f (now (known .entry)) (now (marks .entry)) ⌝ }
+fn slices_fit(n: u16, c: u8, f: u8, known: &[u8], touched: &[u8]) -> bool
+    ensures { λ r. ⌜ r ≡ workFits n c f (now (known .entry)) (now (touched .entry)) ⌝ }
 {
     let w = c as u16 + f as u16 + 1;
     if w > MOST_FRAMES {
@@ -40,7 +40,7 @@ fn slices_fit(n: u16, c: u8, f: u8, known: &[u8], marks: &[u8]) -> bool
     if known.len() != places {
         return false;
     }
-    marks.len() == places
+    touched.len() == places
 }
 
 // Whether a set, wherever it is from, keeps each of its values open as a split: it has the values that
@@ -51,12 +51,12 @@ pub fn is_open_set(
     c: u8,
     f: u8,
     known: &mut [u8],
-    marks: &mut [u8],
+    touched: &mut [u8],
 ) -> bool
-    ensures { λ r. ⌜ tried r (now (known .exit)) (now (marks .exit)) ≡ opening (now (netlist .entry)) fault c f (now (known .entry)) (now (marks .entry)) ⌝ }
+    ensures { λ r. ⌜ tried r (now (known .exit)) (now (touched .exit)) ≡ opening (now (netlist .entry)) fault c f (now (known .entry)) (now (touched .entry)) ⌝ }
 {
     let n = netlist::node_count(netlist);
-    if !slices_fit(n, c, f, known, marks) {
+    if !slices_fit(n, c, f, known, touched) {
         return false;
     }
     if !holds_fault(n, fault, c, known) {
@@ -73,11 +73,11 @@ pub fn is_open_set(
         fault,
         c,
         known,
-        &mut marks[..0],
+        &mut touched[..0],
         start,
     );
     if done.steps > 0 {
         return false;
     }
-    !trace::effect_dies(netlist, fault, c, f, known, marks)
+    !trace::effect_dies(netlist, fault, c, f, known, touched)
 }

@@ -1,7 +1,7 @@
 -- 01, "Effect trace": which lines may show the fault's effect, frame by frame from c on.
 use mathlib.Core.Bool.{Bool, _&&_, _||_, cond, false, not, true}
 use mathlib.Core.List.{List, [], _++_, _∷_}
-use Prim.Native.Nat.{_+_, suc, zero, ℕ}
+use Prim.Native.Nat.{suc, zero, ℕ}
 use lib.Dec.{eqb}
 use lib.ListN.{drop, replicate}
 use Rattle.circuit.specs.Fault.{StuckLines, noneStuck}
@@ -10,19 +10,19 @@ use Rattle.values.specs.Lists.{at, build, every, indexed, table}
 use Rattle.netlist.specs.Netlist.{Net}
 use Rattle.gates.specs.Value.{isUnknown}
 
--- a mark is 1 where a line is touched, 0 where not
-abbrev pub mark : Bool → ℕ
-mark true = 1
-mark false = 0
+-- 1 where something holds, such as that a line is touched, and 0 where not
+abbrev pub oneIf : Bool → ℕ
+oneIf true = 1
+oneIf false = 0
 
-abbrev pub someMark : List ℕ → Bool
-someMark [] = false
-someMark (zero ∷ ms) = someMark ms
-someMark (suc m ∷ ms) = true
+abbrev pub someTouched : List ℕ → Bool
+someTouched [] = false
+someTouched (zero ∷ ms) = someTouched ms
+someTouched (suc m ∷ ms) = true
 
 -- a faulted line at frame c is touched unless known to be u there; any other as `otherwise` says. u is 2 or more where the line is not faulted.
-abbrev pub siteMark : ℕ → ℕ → ℕ → ℕ
-siteMark u v otherwise = cond (isUnknown u) otherwise (mark (not (eqb v u)))
+abbrev pub siteTouched : ℕ → ℕ → ℕ → ℕ
+siteTouched u v otherwise = cond (isUnknown u) otherwise (oneIf (not (eqb v u)))
 
 -- the value of an untouched pin; a touched one counts as unknown
 abbrev pub untouchedValue : ℕ → ℕ → ℕ
@@ -31,37 +31,37 @@ untouchedValue (suc m) v = 2
 
 -- One frame. D has the faulted lines at frame c, and none from c + 1 on; v what is known in the frame.
 module _ (net : Net) (D : StuckLines) (v : ℕ → ℕ) where
-  -- A faulted pin at frame c is touched unless its source is known to be u; any other pin is touched if its source is. ms has the marks
-  -- of the nodes.
-  unfoldable pub pinMark : (ℕ → ℕ) → ℕ → ℕ → ℕ → ℕ
-  pinMark ms n k m = siteMark (D .pin n k) (v m) (ms m)
+  -- A faulted pin at frame c is touched unless its source is known to be u; any other pin is touched if its source is. ms says which nodes
+  -- are touched.
+  unfoldable pub pinTouched : (ℕ → ℕ) → ℕ → ℕ → ℕ → ℕ
+  pinTouched ms n k m = siteTouched (D .pin n k) (v m) (ms m)
 
-  -- the marks of a node's pins, and their values, a touched one's unknown
-  abbrev pub pinMarks : (ℕ → ℕ) → ℕ → List ℕ
-  pinMarks ms n = indexed (pinMark ms n) 0 (net .pins n)
+  -- which of a node's pins are touched, and their values, a touched one's unknown
+  abbrev pub pinsTouched : (ℕ → ℕ) → ℕ → List ℕ
+  pinsTouched ms n = indexed (pinTouched ms n) 0 (net .pins n)
 
   abbrev pub untouchedValues : (ℕ → ℕ) → ℕ → List ℕ
-  untouchedValues ms n = indexed (λ k m. untouchedValue (pinMark ms n k m) (v m)) 0 (net .pins n)
+  untouchedValues ms n = indexed (λ k m. untouchedValue (pinTouched ms n k m) (v m)) 0 (net .pins n)
 
   -- A node with a touched pin is touched unless its untouched pins settle its value: an untouched pin known 0 at an AND or NAND,
   -- known 1 at an OR or NOR. TraceLaws shows that these are 01's sentences, kind by kind.
-  unfoldable pub gateMark : (ℕ → ℕ) → ℕ → ℕ
-  gateMark ms n = elim (someMark (pinMarks ms n)) [ true ↦ mark (isUnknown (gate (net .kind n) (untouchedValues ms n))) | false ↦ 0 ]
+  unfoldable pub gateTouched : (ℕ → ℕ) → ℕ → ℕ
+  gateTouched ms n = elim (someTouched (pinsTouched ms n)) [ true ↦ oneIf (isUnknown (gate (net .kind n) (untouchedValues ms n))) | false ↦ 0 ]
 
-  -- a flip-flop is touched one frame later than its pin: latched has the marks of the flip-flops in this frame
-  unfoldable pub nodeMark : (ℕ → ℕ) → (ℕ → ℕ) → ℕ → ℕ
-  nodeMark latched ms n = siteMark (D .node n) (v n) (cond (isGiven (net .kind n)) (cond (isFlipFlop (net .kind n)) (latched n) 0) (gateMark ms n))
+  -- a flip-flop is touched one frame later than its pin: latched says which flip-flops are, in this frame
+  unfoldable pub nodeTouched : (ℕ → ℕ) → (ℕ → ℕ) → ℕ → ℕ
+  nodeTouched latched ms n = siteTouched (D .node n) (v n) (cond (isGiven (net .kind n)) (cond (isFlipFlop (net .kind n)) (latched n) 0) (gateTouched ms n))
 
-  -- the marks of all nodes, by rising node number
-  unfoldable pub marksList : (ℕ → ℕ) → List ℕ
-  marksList latched = build (λ l n. nodeMark latched (at l) n) (net .size)
+  -- which nodes are touched, by rising node number
+  unfoldable pub touchedList : (ℕ → ℕ) → List ℕ
+  touchedList latched = build (λ l n. nodeTouched latched (at l) n) (net .size)
 
-  -- the marks of the flip-flops' pins: those of the flip-flops in the next frame
-  unfoldable pub latchedMark : (ℕ → ℕ) → ℕ → ℕ
-  latchedMark ms n = cond (isFlipFlop (net .kind n)) (mark (someMark (pinMarks ms n))) 0
+  -- which flip-flops' pins are touched: these flip-flops are touched in the next frame
+  unfoldable pub latchedTouched : (ℕ → ℕ) → ℕ → ℕ
+  latchedTouched ms n = cond (isFlipFlop (net .kind n)) (oneIf (someTouched (pinsTouched ms n))) 0
 
-  unfoldable pub latchedMarks : (ℕ → ℕ) → List ℕ
-  latchedMarks ms = table (latchedMark ms) (net .size)
+  unfoldable pub latchedTouchedList : (ℕ → ℕ) → List ℕ
+  latchedTouchedList ms = table (latchedTouched ms) (net .size)
 
 abbrev pub outputUntouched : Net → List ℕ → ℕ → Bool
 outputUntouched net l n = not (isOutput (net .kind n)) || eqb (at l n) 0
@@ -72,11 +72,11 @@ latchedUntouched l n = eqb (at l n) 0
 -- No output is touched in frame t and the r frames after it, and no flip-flop's pin in the last. kn has what is known, by node and frame.
 unfoldable pub effectDies : Net → (ℕ → ℕ → ℕ) → ℕ → ℕ → StuckLines → List ℕ → Bool
 effectDies net kn zero t D latched =
-    let l = marksList net D (λ n. kn n t) (at latched) in
-    every (outputUntouched net l) (net .size) && every (latchedUntouched (latchedMarks net D (λ n. kn n t) (at l))) (net .size)
+    let l = touchedList net D (λ n. kn n t) (at latched) in
+    every (outputUntouched net l) (net .size) && every (latchedUntouched (latchedTouchedList net D (λ n. kn n t) (at l))) (net .size)
 effectDies net kn (suc r) t D latched =
-    let l = marksList net D (λ n. kn n t) (at latched) in
-    every (outputUntouched net l) (net .size) && effectDies net kn r (suc t) noneStuck (latchedMarks net D (λ n. kn n t) (at l))
+    let l = touchedList net D (λ n. kn n t) (at latched) in
+    every (outputUntouched net l) (net .size) && effectDies net kn r (suc t) noneStuck (latchedTouchedList net D (λ n. kn n t) (at l))
 
 -- the first k bytes 0, the others as they were
 abbrev pub cleared : ℕ → List ℕ → List ℕ

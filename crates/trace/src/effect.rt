@@ -1,5 +1,5 @@
-// The effect trace: which lines may show the fault's effect, frame by frame from c on. The marks of
-// one frame lie in the first n bytes of the lent slice, 1 for a touched node and 0 for another.
+// The effect trace: which lines may show the fault's effect, frame by frame from c on. What is touched
+// in one frame lies in the first n bytes of the lent slice, 1 for a touched node and 0 for another.
 ghost use mathlib.Core.Path.{_≡_};
 ghost use mathlib.Core.Bool.{_&&_};
 ghost use mathlib.Core.List.{_++_, []};
@@ -10,7 +10,7 @@ ghost use Rattle.gates.specs.Kind.{gate};
 ghost use Rattle.values.specs.Lists.{at, every};
 ghost use Rattle.netlist.specs.Netlist.{kindOf, netOf, sourceOf};
 ghost use Rattle.knowledge.specs.Inner.Slice.{knownIn};
-ghost use Rattle.trace.specs.Trace.{effectDies, gateMark, latchedMark, latchedMarks, latchedUntouched, marksList, nodeMark, outputUntouched, pinMark, pinMarks, siteMark, someMark, untouchedValue, untouchedValues};
+ghost use Rattle.trace.specs.Trace.{effectDies, gateTouched, latchedTouched, latchedTouchedList, latchedUntouched, touchedList, nodeTouched, outputUntouched, pinTouched, pinsTouched, siteTouched, someTouched, untouchedValue, untouchedValues};
 ghost use Rattle.trace.specs.Inner.Tracing.{traced, tracing};
 use circuit::Circuit;
 use circuit::Fault;
@@ -21,8 +21,8 @@ use gates::UNKNOWN;
 use knowledge::place_of;
 
 // A faulted line is touched unless its value is known to be the stuck one; any other as it is said.
-fn site_mark(stuck: u8, value: u8, otherwise: u8) -> u8
-    ensures { λ r. ⌜ r ≡ siteMark stuck value otherwise ⌝ }
+fn site_touched(stuck: u8, value: u8, otherwise: u8) -> u8
+    ensures { λ r. ⌜ r ≡ siteTouched stuck value otherwise ⌝ }
 {
     if stuck >= NOT_STUCK {
         return otherwise;
@@ -30,32 +30,32 @@ fn site_mark(stuck: u8, value: u8, otherwise: u8) -> u8
     if value == stuck { 0 } else { 1 }
 }
 
-// The mark of a node below the limit; no other node counts as touched.
-fn mark_below(marks: &[u8], limit: u16, node: u16) -> u8
-    ensures { λ r. ⌜ r ≡ at (take limit (now (marks .entry))) node ⌝ }
+// Whether a node below the limit is touched; no other node counts as touched.
+fn touched_below(touched: &[u8], limit: u16, node: u16) -> u8
+    ensures { λ r. ⌜ r ≡ at (take limit (now (touched .entry))) node ⌝ }
 {
     if node < limit {
-        return values::byte_at(marks, node as usize);
+        return values::byte_at(touched, node as usize);
     }
     0
 }
 
 // A pin is touched if its source is, and a faulted one by the rule for faulted lines.
-fn pin_mark(
+fn pin_touched(
     netlist: &[u8],
     circuit: Circuit,
     values: &[u8],
-    marks: &[u8],
+    touched: &[u8],
     limit: u16,
     node: u16,
     pin: u16,
 ) -> u8
-    ensures { λ r. ⌜ r ≡ pinMark (netOf (now (netlist .entry))) (linesIn circuit) (at (now (values .entry))) (at (take limit (now (marks .entry)))) node pin (sourceOf (now (netlist .entry)) node pin) ⌝ }
+    ensures { λ r. ⌜ r ≡ pinTouched (netOf (now (netlist .entry))) (linesIn circuit) (at (now (values .entry))) (at (take limit (now (touched .entry)))) node pin (sourceOf (now (netlist .entry)) node pin) ⌝ }
 {
     let source = netlist::source_of(netlist, node, pin);
     let stuck = circuit::stuck_pin(circuit, node, pin);
     let value = values::byte_at(values, source as usize);
-    site_mark(stuck, value, mark_below(marks, limit, source))
+    site_touched(stuck, value, touched_below(touched, limit, source))
 }
 
 // Whether one of a node's pins is touched.
@@ -63,16 +63,16 @@ fn some_pin_touched(
     netlist: &[u8],
     circuit: Circuit,
     values: &[u8],
-    marks: &[u8],
+    touched: &[u8],
     limit: u16,
     node: u16,
 ) -> bool
-    ensures { λ r. ⌜ r ≡ someMark (pinMarks (netOf (now (netlist .entry))) (linesIn circuit) (at (now (values .entry))) (at (take limit (now (marks .entry)))) node) ⌝ }
+    ensures { λ r. ⌜ r ≡ someTouched (pinsTouched (netOf (now (netlist .entry))) (linesIn circuit) (at (now (values .entry))) (at (take limit (now (touched .entry)))) node) ⌝ }
 {
     let mut pin = netlist::length_of(netlist, node);
     while 0 < pin {
         pin -= 1;
-        if pin_mark(netlist, circuit, values, marks, limit, node, pin) != 0 {
+        if pin_touched(netlist, circuit, values, touched, limit, node, pin) != 0 {
             return true;
         }
     }
@@ -84,14 +84,14 @@ fn untouched_value(
     netlist: &[u8],
     circuit: Circuit,
     values: &[u8],
-    marks: &[u8],
+    touched: &[u8],
     limit: u16,
     node: u16,
     pin: u16,
 ) -> u8
-    ensures { λ r. ⌜ r ≡ untouchedValue (pinMark (netOf (now (netlist .entry))) (linesIn circuit) (at (now (values .entry))) (at (take limit (now (marks .entry)))) node pin (sourceOf (now (netlist .entry)) node pin)) (at (now (values .entry)) (sourceOf (now (netlist .entry)) node pin)) ⌝ }
+    ensures { λ r. ⌜ r ≡ untouchedValue (pinTouched (netOf (now (netlist .entry))) (linesIn circuit) (at (now (values .entry))) (at (take limit (now (touched .entry)))) node pin (sourceOf (now (netlist .entry)) node pin)) (at (now (values .entry)) (sourceOf (now (netlist .entry)) node pin)) ⌝ }
 {
-    if pin_mark(netlist, circuit, values, marks, limit, node, pin) != 0 {
+    if pin_touched(netlist, circuit, values, touched, limit, node, pin) != 0 {
         return UNKNOWN;
     }
     let source = netlist::source_of(netlist, node, pin);
@@ -103,11 +103,11 @@ fn untouched_gate(
     netlist: &[u8],
     circuit: Circuit,
     values: &[u8],
-    marks: &[u8],
+    touched: &[u8],
     limit: u16,
     node: u16,
 ) -> u8
-    ensures { λ r. ⌜ r ≡ gate (kindOf (now (netlist .entry)) node) (untouchedValues (netOf (now (netlist .entry))) (linesIn circuit) (at (now (values .entry))) (at (take limit (now (marks .entry)))) node) ⌝ }
+    ensures { λ r. ⌜ r ≡ gate (kindOf (now (netlist .entry)) node) (untouchedValues (netOf (now (netlist .entry))) (linesIn circuit) (at (now (values .entry))) (at (take limit (now (touched .entry)))) node) ⌝ }
 {
     let rule = gates::rule_of(netlist::kind_of(netlist, node));
     let gate = rule.gate;
@@ -115,83 +115,83 @@ fn untouched_gate(
     let mut pin = netlist::length_of(netlist, node);
     while 0 < pin {
         pin -= 1;
-        let read = untouched_value(netlist, circuit, values, marks, limit, node, pin);
+        let read = untouched_value(netlist, circuit, values, touched, limit, node, pin);
         value = gates::join_of(gate, read, value);
     }
     gates::inverted_if(rule.inverted, value)
 }
 
 // A node with a touched pin is touched unless its untouched pins settle its value.
-fn gate_mark(
+fn gate_touched(
     netlist: &[u8],
     circuit: Circuit,
     values: &[u8],
-    marks: &[u8],
+    touched: &[u8],
     limit: u16,
     node: u16,
 ) -> u8
-    ensures { λ r. ⌜ r ≡ gateMark (netOf (now (netlist .entry))) (linesIn circuit) (at (now (values .entry))) (at (take limit (now (marks .entry)))) node ⌝ }
+    ensures { λ r. ⌜ r ≡ gateTouched (netOf (now (netlist .entry))) (linesIn circuit) (at (now (values .entry))) (at (take limit (now (touched .entry)))) node ⌝ }
 {
-    if !some_pin_touched(netlist, circuit, values, marks, limit, node) {
+    if !some_pin_touched(netlist, circuit, values, touched, limit, node) {
         return 0;
     }
-    if untouched_gate(netlist, circuit, values, marks, limit, node) < UNKNOWN {
+    if untouched_gate(netlist, circuit, values, touched, limit, node) < UNKNOWN {
         0
     } else {
         1
     }
 }
 
-// The mark of a node, where its own place holds what its flip-flop latched, and the places below it
-// hold the marks of this frame.
-fn node_mark(netlist: &[u8], circuit: Circuit, values: &[u8], marks: &[u8], node: u16) -> u8
-    ensures { λ r. ⌜ r ≡ nodeMark (netOf (now (netlist .entry))) (linesIn circuit) (at (now (values .entry))) (at (now (marks .entry))) (at (take node (now (marks .entry)))) node ⌝ }
+// Whether a node is touched, where its own place holds what its flip-flop latched, and the places below it
+// hold what is touched in this frame.
+fn node_touched(netlist: &[u8], circuit: Circuit, values: &[u8], touched: &[u8], node: u16) -> u8
+    ensures { λ r. ⌜ r ≡ nodeTouched (netOf (now (netlist .entry))) (linesIn circuit) (at (now (values .entry))) (at (now (touched .entry))) (at (take node (now (touched .entry)))) node ⌝ }
 {
     let stuck = circuit::stuck_node(circuit, node);
     let value = values::byte_at(values, node as usize);
     let kind = netlist::kind_of(netlist, node);
     if kind == FLIP_FLOP {
-        return site_mark(stuck, value, values::byte_at(marks, node as usize));
+        return site_touched(stuck, value, values::byte_at(touched, node as usize));
     }
     if gates::is_given(kind) {
-        return site_mark(stuck, value, 0);
+        return site_touched(stuck, value, 0);
     }
-    site_mark(
+    site_touched(
         stuck,
         value,
-        gate_mark(netlist, circuit, values, marks, node, node),
+        gate_touched(netlist, circuit, values, touched, node, node),
     )
 }
 
-// Puts each node's mark into its place, by rising node number.
-fn mark_nodes(netlist: &[u8], n: u16, circuit: Circuit, values: &[u8], marks: &mut [u8])
+// Puts into each node's place whether it is touched, by rising node number.
+fn touch_nodes(netlist: &[u8], n: u16, circuit: Circuit, values: &[u8], touched: &mut [u8])
     requires { ⌜ n ≡ netOf (now netlist) .size ⌝ }
-    requires { ⌜ n ≤ length (now marks) ⌝ }
-    ensures { λ _. ⌜ now (marks .exit) ≡ marksList (netOf (now (netlist .entry))) (linesIn circuit) (at (now (values .entry))) (at (now (marks .entry))) ++ drop n (now (marks .entry)) ⌝ }
+    requires { ⌜ n ≤ length (now touched) ⌝ }
+    ensures { λ _. ⌜ now (touched .exit) ≡ touchedList (netOf (now (netlist .entry))) (linesIn circuit) (at (now (values .entry))) (at (now (touched .entry))) ++ drop n (now (touched .entry)) ⌝ }
 {
     let mut node: u16 = 0;
     while node < n {
-        let value = node_mark(netlist, circuit, values, marks, node);
-        values::store(marks, node as usize, value);
+        let value = node_touched(netlist, circuit, values, touched, node);
+        values::store(touched, node as usize, value);
         node += 1;
     }
 }
 
-// The mark of a flip-flop in the next frame: whether its pin is touched in this one. No other node has one.
-fn latched_mark(
+// Whether a flip-flop is touched in the next frame: its pin is in this one. No other node is touched so.
+fn latched_touched(
     netlist: &[u8],
     n: u16,
     circuit: Circuit,
     values: &[u8],
-    marks: &[u8],
+    touched: &[u8],
     node: u16,
 ) -> u8
-    ensures { λ r. ⌜ r ≡ latchedMark (netOf (now (netlist .entry))) (linesIn circuit) (at (now (values .entry))) (at (take n (now (marks .entry)))) node ⌝ }
+    ensures { λ r. ⌜ r ≡ latchedTouched (netOf (now (netlist .entry))) (linesIn circuit) (at (now (values .entry))) (at (take n (now (touched .entry)))) node ⌝ }
 {
     if netlist::kind_of(netlist, node) != FLIP_FLOP {
         return 0;
     }
-    if some_pin_touched(netlist, circuit, values, marks, n, node) {
+    if some_pin_touched(netlist, circuit, values, touched, n, node) {
         1
     } else {
         0
@@ -199,47 +199,47 @@ fn latched_mark(
 }
 
 // Copies the second n bytes over the first.
-fn move_down(n: u16, marks: &mut [u8])
-    requires { ⌜ n + n ≤ length (now marks) ⌝ }
-    ensures { λ _. ⌜ take n (now (marks .exit)) ≡ take n (drop n (now (marks .entry))) ⌝ }
+fn move_down(n: u16, touched: &mut [u8])
+    requires { ⌜ n + n ≤ length (now touched) ⌝ }
+    ensures { λ _. ⌜ take n (now (touched .exit)) ≡ take n (drop n (now (touched .entry))) ⌝ }
 {
     let mut node: u16 = 0;
     while node < n {
-        let value = values::byte_at(marks, n as usize + node as usize);
-        values::store(marks, node as usize, value);
+        let value = values::byte_at(touched, n as usize + node as usize);
+        values::store(touched, node as usize, value);
         node += 1;
     }
 }
 
-// Puts the marks of the flip-flops in the next frame into the first n bytes. They are worked out in
+// Puts what of the flip-flops is touched in the next frame into the first n bytes. It is worked out in
 // the second n bytes, since a flip-flop's source may be a flip-flop.
-fn latch_marks(netlist: &[u8], n: u16, circuit: Circuit, values: &[u8], marks: &mut [u8])
+fn latch_touched(netlist: &[u8], n: u16, circuit: Circuit, values: &[u8], touched: &mut [u8])
     requires { ⌜ n ≡ netOf (now netlist) .size ⌝ }
-    requires { ⌜ n + n ≤ length (now marks) ⌝ }
-    ensures { λ _. ⌜ take n (now (marks .exit)) ≡ latchedMarks (netOf (now (netlist .entry))) (linesIn circuit) (at (now (values .entry))) (at (take n (now (marks .entry)))) ⌝ }
+    requires { ⌜ n + n ≤ length (now touched) ⌝ }
+    ensures { λ _. ⌜ take n (now (touched .exit)) ≡ latchedTouchedList (netOf (now (netlist .entry))) (linesIn circuit) (at (now (values .entry))) (at (take n (now (touched .entry)))) ⌝ }
 {
     let mut node: u16 = 0;
     while node < n {
-        let value = latched_mark(netlist, n, circuit, values, marks, node);
-        values::store(marks, n as usize + node as usize, value);
+        let value = latched_touched(netlist, n, circuit, values, touched, node);
+        values::store(touched, n as usize + node as usize, value);
         node += 1;
     }
-    move_down(n, marks);
+    move_down(n, touched);
 }
 
 // Whether a node is no output, or an output that is not touched.
-fn output_untouched(netlist: &[u8], marks: &[u8], node: u16) -> bool
-    ensures { λ r. ⌜ r ≡ outputUntouched (netOf (now (netlist .entry))) (now (marks .entry)) node ⌝ }
+fn output_untouched(netlist: &[u8], touched: &[u8], node: u16) -> bool
+    ensures { λ r. ⌜ r ≡ outputUntouched (netOf (now (netlist .entry))) (now (touched .entry)) node ⌝ }
 {
-    netlist::kind_of(netlist, node) != OUTPUT || values::byte_at(marks, node as usize) == 0
+    netlist::kind_of(netlist, node) != OUTPUT || values::byte_at(touched, node as usize) == 0
 }
 
-fn outputs_untouched(netlist: &[u8], n: u16, marks: &[u8]) -> bool
-    ensures { λ r. ⌜ r ≡ every (outputUntouched (netOf (now (netlist .entry))) (take n (now (marks .entry)))) n ⌝ }
+fn outputs_untouched(netlist: &[u8], n: u16, touched: &[u8]) -> bool
+    ensures { λ r. ⌜ r ≡ every (outputUntouched (netOf (now (netlist .entry))) (take n (now (touched .entry)))) n ⌝ }
 {
     let mut node: u16 = 0;
     while node < n {
-        if !output_untouched(netlist, marks, node) {
+        if !output_untouched(netlist, touched, node) {
             return false;
         }
         node += 1;
@@ -248,13 +248,13 @@ fn outputs_untouched(netlist: &[u8], n: u16, marks: &[u8]) -> bool
 }
 
 // Whether no flip-flop's pin is touched.
-fn pins_untouched(netlist: &[u8], n: u16, circuit: Circuit, values: &[u8], marks: &[u8]) -> bool
+fn pins_untouched(netlist: &[u8], n: u16, circuit: Circuit, values: &[u8], touched: &[u8]) -> bool
     requires { ⌜ n ≡ netOf (now netlist) .size ⌝ }
-    ensures { λ r. ⌜ r ≡ every (latchedUntouched (latchedMarks (netOf (now (netlist .entry))) (linesIn circuit) (at (now (values .entry))) (at (take n (now (marks .entry)))))) n ⌝ }
+    ensures { λ r. ⌜ r ≡ every (latchedUntouched (latchedTouchedList (netOf (now (netlist .entry))) (linesIn circuit) (at (now (values .entry))) (at (take n (now (touched .entry)))))) n ⌝ }
 {
     let mut node: u16 = 0;
     while node < n {
-        if latched_mark(netlist, n, circuit, values, marks, node) != 0 {
+        if latched_touched(netlist, n, circuit, values, touched, node) != 0 {
             return false;
         }
         node += 1;
@@ -262,53 +262,60 @@ fn pins_untouched(netlist: &[u8], n: u16, circuit: Circuit, values: &[u8], marks
     true
 }
 
-// Puts the marks of a frame into the first n bytes, which hold those of its flip-flops, and says
+// Puts what is touched in a frame into the first n bytes, which hold its touched flip-flops, and says
 // whether no output is touched.
-fn mark_frame(
+fn touch_frame(
     netlist: &[u8],
     n: u16,
     circuit: Circuit,
     known: &[u8],
     frame: u16,
-    marks: &mut [u8],
+    touched: &mut [u8],
 ) -> bool
     requires { ⌜ n ≡ netOf (now netlist) .size ⌝ }
-    requires { ⌜ n ≤ length (now marks) ⌝ }
-    ensures { λ _. ⌜ take n (now (marks .exit)) ≡ marksList (netOf (now (netlist .entry))) (linesIn circuit) (λ m. knownIn (now (known .entry)) (netOf (now (netlist .entry)) .size) m frame) (at (take n (now (marks .entry)))) ⌝ }
-    ensures { λ r. ⌜ r ≡ every (outputUntouched (netOf (now (netlist .entry))) (marksList (netOf (now (netlist .entry))) (linesIn circuit) (λ m. knownIn (now (known .entry)) (netOf (now (netlist .entry)) .size) m frame) (at (take n (now (marks .entry)))))) (netOf (now (netlist .entry)) .size) ⌝ }
+    requires { ⌜ n ≤ length (now touched) ⌝ }
+    ensures { λ _. ⌜ take n (now (touched .exit)) ≡ touchedList (netOf (now (netlist .entry))) (linesIn circuit) (λ m. knownIn (now (known .entry)) (netOf (now (netlist .entry)) .size) m frame) (at (take n (now (touched .entry)))) ⌝ }
+    ensures { λ r. ⌜ r ≡ every (outputUntouched (netOf (now (netlist .entry))) (touchedList (netOf (now (netlist .entry))) (linesIn circuit) (λ m. knownIn (now (known .entry)) (netOf (now (netlist .entry)) .size) m frame) (at (take n (now (touched .entry)))))) (netOf (now (netlist .entry)) .size) ⌝ }
 {
     let values = values::tail(known, place_of(n, 0, frame));
-    mark_nodes(netlist, n, circuit, values, marks);
-    outputs_untouched(netlist, n, marks)
+    touch_nodes(netlist, n, circuit, values, touched);
+    outputs_untouched(netlist, n, touched)
 }
 
-// Puts the marks of the flip-flops in the next frame into the first n bytes, which hold those of this frame.
-fn latch_frame(netlist: &[u8], n: u16, circuit: Circuit, known: &[u8], frame: u16, marks: &mut [u8])
+// Puts the flip-flops touched in the next frame into the first n bytes, which hold what is touched in this one.
+fn latch_frame(
+    netlist: &[u8],
+    n: u16,
+    circuit: Circuit,
+    known: &[u8],
+    frame: u16,
+    touched: &mut [u8],
+)
     requires { ⌜ n ≡ netOf (now netlist) .size ⌝ }
-    requires { ⌜ n + n ≤ length (now marks) ⌝ }
-    ensures { λ _. ⌜ take n (now (marks .exit)) ≡ latchedMarks (netOf (now (netlist .entry))) (linesIn circuit) (λ m. knownIn (now (known .entry)) (netOf (now (netlist .entry)) .size) m frame) (at (take n (now (marks .entry)))) ⌝ }
+    requires { ⌜ n + n ≤ length (now touched) ⌝ }
+    ensures { λ _. ⌜ take n (now (touched .exit)) ≡ latchedTouchedList (netOf (now (netlist .entry))) (linesIn circuit) (λ m. knownIn (now (known .entry)) (netOf (now (netlist .entry)) .size) m frame) (at (take n (now (touched .entry)))) ⌝ }
 {
     let values = values::tail(known, place_of(n, 0, frame));
-    latch_marks(netlist, n, circuit, values, marks);
+    latch_touched(netlist, n, circuit, values, touched);
 }
 
-// Whether no flip-flop's pin is touched in a frame of the window, whose marks the first n bytes hold.
+// Whether no flip-flop's pin is touched in a frame of the window, where the first n bytes hold what is.
 fn pins_untouched_at(
     netlist: &[u8],
     n: u16,
     circuit: Circuit,
     known: &[u8],
     frame: u16,
-    marks: &[u8],
+    touched: &[u8],
 ) -> bool
     requires { ⌜ n ≡ netOf (now netlist) .size ⌝ }
-    ensures { λ r. ⌜ r ≡ every (latchedUntouched (latchedMarks (netOf (now (netlist .entry))) (linesIn circuit) (λ m. knownIn (now (known .entry)) (netOf (now (netlist .entry)) .size) m frame) (at (take n (now (marks .entry)))))) (netOf (now (netlist .entry)) .size) ⌝ }
+    ensures { λ r. ⌜ r ≡ every (latchedUntouched (latchedTouchedList (netOf (now (netlist .entry))) (linesIn circuit) (λ m. knownIn (now (known .entry)) (netOf (now (netlist .entry)) .size) m frame) (at (take n (now (touched .entry)))))) (netOf (now (netlist .entry)) .size) ⌝ }
 {
     let values = values::tail(known, place_of(n, 0, frame));
-    pins_untouched(netlist, n, circuit, values, marks)
+    pins_untouched(netlist, n, circuit, values, touched)
 }
 
-// Whether the effect dies, where the first n bytes hold the marks of the flip-flops at frame c.
+// Whether the effect dies, where the first n bytes hold the flip-flops touched at frame c.
 fn dies_from(
     netlist: &[u8],
     n: u16,
@@ -316,29 +323,29 @@ fn dies_from(
     c: u8,
     f: u8,
     known: &[u8],
-    marks: &mut [u8],
+    touched: &mut [u8],
 ) -> bool
     requires { ⌜ n ≡ netOf (now netlist) .size ⌝ }
-    requires { ⌜ n * (f + 1) ≤ length (now marks) ⌝ }
-    ensures { λ r. ⌜ r ≡ effectDies (netOf (now (netlist .entry))) (knownIn (now (known .entry)) (netOf (now (netlist .entry)) .size)) f c (linesOf fault) (take n (now (marks .entry))) ⌝ }
+    requires { ⌜ n * (f + 1) ≤ length (now touched) ⌝ }
+    ensures { λ r. ⌜ r ≡ effectDies (netOf (now (netlist .entry))) (knownIn (now (known .entry)) (netOf (now (netlist .entry)) .size)) f c (linesOf fault) (take n (now (touched .entry))) ⌝ }
 {
     let mut circuit = Circuit::Faulty(fault);
     let mut frame = c as u16;
     let mut left = f;
     while 0 < left {
-        if !mark_frame(netlist, n, circuit, known, frame, marks) {
+        if !touch_frame(netlist, n, circuit, known, frame, touched) {
             return false;
         }
-        latch_frame(netlist, n, circuit, known, frame, marks);
+        latch_frame(netlist, n, circuit, known, frame, touched);
         circuit = Circuit::Good;
         frame += 1;
         left -= 1;
     }
-    mark_frame(netlist, n, circuit, known, frame, marks)
-        && pins_untouched_at(netlist, n, circuit, known, frame, marks)
+    touch_frame(netlist, n, circuit, known, frame, touched)
+        && pins_untouched_at(netlist, n, circuit, known, frame, touched)
 }
 
-// The same from the fault frame on, where no flip-flop is touched yet. The marks are cleared afterwards.
+// The same from the fault frame on, where no flip-flop is touched yet. The lent bytes are cleared afterwards.
 fn trace_window(
     netlist: &[u8],
     n: u16,
@@ -346,36 +353,37 @@ fn trace_window(
     c: u8,
     f: u8,
     known: &[u8],
-    marks: &mut [u8],
+    touched: &mut [u8],
 ) -> bool
     requires { ⌜ n ≡ netOf (now netlist) .size ⌝ }
-    requires { ⌜ n * (f + 1) ≡ length (now marks) ⌝ }
-    ensures { λ r. ⌜ traced r (now (marks .exit)) ≡ traced (effectDies (netOf (now (netlist .entry))) (knownIn (now (known .entry)) (netOf (now (netlist .entry)) .size)) f c (linesOf fault) []) (replicate (length (now (marks .entry))) 0) ⌝ }
+    requires { ⌜ n * (f + 1) ≡ length (now touched) ⌝ }
+    ensures { λ r. ⌜ traced r (now (touched .exit)) ≡ traced (effectDies (netOf (now (netlist .entry))) (knownIn (now (known .entry)) (netOf (now (netlist .entry)) .size)) f c (linesOf fault) []) (replicate (length (now (touched .entry))) 0) ⌝ }
 {
-    values::fill(marks, 0);
-    let dies = dies_from(netlist, n, fault, c, f, known, marks);
-    values::fill(marks, 0);
+    values::fill(touched, 0);
+    let dies = dies_from(netlist, n, fault, c, f, known, touched);
+    values::fill(touched, 0);
     dies
 }
 
 // Whether the fault's effect dies: no output is touched from frame c on, and no flip-flop's pin in
-// the last frame, c + f. What is known lies in bytes, frame by frame, one for each node. The marks
-// take as many bytes as there are nodes and frames from c on; a shorter slice stays as it is, and
-// nothing is said to die.
+// the last frame, c + f. What is known lies in bytes, frame by frame, one for each node; a place past
+// the end counts as known to be 0, which no caller may lean on: it says nothing of the circuit, and
+// a window has a byte for each of its places. The last slice has to have a byte for each
+// node and each frame from c on; a shorter one stays as it is, and nothing is said to die.
 pub fn effect_dies(
     netlist: &[u8],
     fault: Fault,
     c: u8,
     f: u8,
     known: &[u8],
-    marks: &mut [u8],
+    touched: &mut [u8],
 ) -> bool
-    ensures { λ r. ⌜ traced r (now (marks .exit)) ≡ tracing (netOf (now (netlist .entry))) (linesOf fault) c f (knownIn (now (known .entry)) (netOf (now (netlist .entry)) .size)) (now (marks .entry)) ⌝ }
+    ensures { λ r. ⌜ traced r (now (touched .exit)) ≡ tracing (netOf (now (netlist .entry))) (linesOf fault) c f (knownIn (now (known .entry)) (netOf (now (netlist .entry)) .size)) (now (touched .entry)) ⌝ }
 {
     let n = netlist::node_count(netlist);
     let size = n as usize * (f as usize + 1);
-    if marks.len() < size {
+    if touched.len() < size {
         return false;
     }
-    trace_window(netlist, n, fault, c, f, known, &mut marks[..size])
+    trace_window(netlist, n, fault, c, f, known, &mut touched[..size])
 }

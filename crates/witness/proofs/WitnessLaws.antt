@@ -8,7 +8,7 @@ use native.Mathlib.Omega.{arith}
 use lib.Dec.{eqb}
 use lib.ListN.{length}
 use lib.Seq.{sets}
-use borrow.Author.Tests.{eqb-false, eqb-true, not-true}
+use borrow.Author.Tests.{eqb-false, not-true}
 use Rattle.values.proofs.BoolLaws.{and-left, and-right}
 use Rattle.values.proofs.ListLaws.{any-found, build-end, build-rest, getD-build, length-build, rewritten-build}
 use Rattle.values.proofs.SetsLaws.{sets-whole}
@@ -21,26 +21,26 @@ use Rattle.circuit.specs.Fault.{StuckLines, noneStuck}
 use Rattle.netlist.specs.Netlist.{Net}
 use Rattle.witness.proofs.AlikeLaws.{alike-next, alike-now, from-next}
 use Rattle.witness.specs.Inner.Alike.{Alike, AlikeFrom, SameOutputs}
-use Rattle.witness.specs.Inner.Clocks.{Compared, Held, bothStep, clocked, compared, held, outputDiffers, started}
+use Rattle.witness.specs.Inner.Clocks.{Compared, Held, bothStep, clocked, compared, holding, outputDiffers, started}
 
 module _ (net : Net) (s : StuckLines) where
   -- a clock by its three parts, for n nodes: u is what it is given, v what is seen, w what is latched
   pub clocked-by : (n : ℕ) (x l u v w : List ℕ) → n ≡ net .size → u ≡ started net l n x → v ≡ settled net s n u → w ≡ latchedInto net s (at v) n l
-      → held v w ≡ clocked net s (held x l)
+      → holding v w ≡ clocked net s (holding x l)
   unfolding clocked
   clocked-by n x l u v w e a b d =
       let p : u ≡ started net l (net .size) x = a ∙ ap (λ (k : ℕ). started net l k x) e in
       let q : v ≡ settled net s (net .size) (started net l (net .size) x) = b ∙ (λ i. settled net s (e i) (p i)) in
       let r = d ∙ (λ i. latchedInto net s (at (q i)) (e i) l) in
-      λ i. held (q i) (r i)
+      λ i. holding (q i) (r i)
 
   -- a clock of both circuits by its parts: z are the good circuit's inputs, copied from the faulty one's
   pub both-by : (f g a b : Held) (z : List ℕ) (r : Bool) → z ≡ sets (g .values) 0 (f .values) → a ≡ clocked net s f
-      → b ≡ clocked net noneStuck (held z (g .latched)) → r ≡ any (outputDiffers net (a .values) (b .values)) (net .size)
+      → b ≡ clocked net noneStuck (holding z (g .latched)) → r ≡ any (outputDiffers net (a .values) (b .values)) (net .size)
       → compared r a b ≡ bothStep net s f g
   unfolding bothStep
   both-by f g a b z r h p q d =
-      let t = q ∙ ap (λ (x : List ℕ). clocked net noneStuck (held x (g .latched))) h in
+      let t = q ∙ ap (λ (x : List ℕ). clocked net noneStuck (holding x (g .latched))) h in
       let e = d ∙ (λ i. any (outputDiffers net (p i .values) (t i .values)) (net .size)) in
       λ i. compared (e i) (p i) (t i)
 
@@ -70,22 +70,22 @@ module _ (net : Net) (x l : List ℕ) (h : length x ≡ net .size) where
     unfolding latchedAfter
     clock-latched k = latched-into net s (at (seenAfter net s x l)) l k
 
-    pub clocked-sound : length l ≡ net .size → clocked net s (held x l) ≡ held (seenAfter net s x l) (latchedAfter net s x l)
+    pub clocked-sound : length l ≡ net .size → clocked net s (holding x l) ≡ holding (seenAfter net s x l) (latchedAfter net s x l)
     unfolding clocked
     clocked-sound k =
-        (λ i. held (clock-settled i) (latchedInto net s (at (clock-settled i)) (net .size) l))
-        ∙ ap (held (seenAfter net s x l)) (clock-latched k)
+        (λ i. holding (clock-settled i) (latchedInto net s (at (clock-settled i)) (net .size) l))
+        ∙ ap (holding (seenAfter net s x l)) (clock-latched k)
 
     -- The faulty circuit takes a clock: one less is left.
     pub clock-from : length l ≡ net .size → InputBits net x → (c : ℕ) → AlikeFrom net s (suc c) l
-        → (a : Held) → a ≡ clocked net s (held x l) → AlikeFrom net s c (a .latched)
+        → (a : Held) → a ≡ clocked net s (holding x l) → AlikeFrom net s c (a .latched)
     clock-from k p c q a e =
         subst (λ (m : List ℕ). AlikeFrom net s c m) (sym (ap (λ (b : Held). b .latched) (e ∙ clocked-sound k))) (from-next net s c x l p q)
 
 -- an output at which two circuits differ: they are not the same there
-output-apart : (k v w : ℕ) → (isOutput k && not (eqb v w)) ≡ true → (k ≡ 1 → v ≡ w) → ⊥
+output-apart : (k v w : ℕ) → (isOutput k && not (eqb v w)) ≡ true → (isOutput k ≡ true → v ≡ w) → ⊥
 output-apart k v w e h =
-    eqb-false v w (not-true (eqb v w) (and-right (isOutput k) (not (eqb v w)) e)) (h (eqb-true k 1 (and-left (isOutput k) (not (eqb v w)) e)))
+    eqb-false v w (not-true (eqb v w) (and-right (isOutput k) (not (eqb v w)) e)) (h (and-left (isOutput k) (not (eqb v w)) e))
 
 -- where all outputs are the same none differs
 same-differ : (net : Net) (v w : List ℕ) → SameOutputs net v w → any (outputDiffers net v w) (net .size) ≡ true → ⊥
@@ -97,16 +97,16 @@ same-differ net v w h e =
 -- Both circuits take a clock with the same inputs, in such slices: while they are alike no output differs, and they go on alike.
 module _ (net : Net) (s : StuckLines) (o : Ordered net) (x l y m : List ℕ)
     (hx : length x ≡ net .size) (hl : length l ≡ net .size) (hy : length y ≡ net .size) (hm : length m ≡ net .size) where
-  pub both-sound : bothStep net s (held x l) (held y m)
+  pub both-sound : bothStep net s (holding x l) (holding y m)
       ≡ compared (any (outputDiffers net (seenAfter net s x l) (seenAfter net noneStuck x m)) (net .size))
-      (held (seenAfter net s x l) (latchedAfter net s x l)) (held (seenAfter net noneStuck x m) (latchedAfter net noneStuck x m))
+      (holding (seenAfter net s x l) (latchedAfter net s x l)) (holding (seenAfter net noneStuck x m) (latchedAfter net noneStuck x m))
   unfolding bothStep
   both-sound =
       let f = clocked-sound net x l hx s o hl in
-      let g = ap (λ (z : List ℕ). clocked net noneStuck (held z m)) (sets-whole x y (hy ∙ sym hx)) ∙ clocked-sound net x m hx noneStuck o hm in
+      let g = ap (λ (z : List ℕ). clocked net noneStuck (holding z m)) (sets-whole x y (hy ∙ sym hx)) ∙ clocked-sound net x m hx noneStuck o hm in
       λ i. compared (any (outputDiffers net (f i .values) (g i .values)) (net .size)) (f i) (g i)
 
-  pub both-alike : InputBits net x → Alike net s l m → (r : Bool) (a b : Held) → compared r a b ≡ bothStep net s (held x l) (held y m)
+  pub both-alike : InputBits net x → Alike net s l m → (r : Bool) (a b : Held) → compared r a b ≡ bothStep net s (holding x l) (holding y m)
       → (r ≡ true → ⊥) × Alike net s (a .latched) (b .latched)
   both-alike p h r a b e =
       let q = e ∙ both-sound in (

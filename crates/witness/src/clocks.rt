@@ -5,7 +5,7 @@ ghost use Rattle.values.specs.Lists.{any};
 ghost use Rattle.simulator.specs.ClockLists.{clockStart};
 ghost use Rattle.circuit.specs.Fault.{linesIn, linesOf};
 ghost use Rattle.netlist.specs.Netlist.{netOf};
-ghost use Rattle.witness.specs.Inner.Clocks.{bothStep, clocked, compared, held, outputDiffers, started};
+ghost use Rattle.witness.specs.Inner.Clocks.{bothStep, clocked, compared, holding, outputDiffers, started};
 use circuit::Circuit;
 use circuit::Fault;
 use gates::FLIP_FLOP;
@@ -40,7 +40,7 @@ fn start_clock(netlist: &[u8], n: u16, latched: &[u8], values: &mut [u8])
 // A clock of a circuit. At the places of inputs the values are the clock's; afterwards they are the
 // seen values of all nodes, and what is latched is the next clock's.
 pub fn run_clock(netlist: &[u8], circuit: Circuit, latched: &mut [u8], values: &mut [u8])
-    ensures { λ _. ⌜ held (now (values .exit)) (now (latched .exit)) ≡ clocked (netOf (now (netlist .entry))) (linesIn circuit) (held (now (values .entry)) (now (latched .entry))) ⌝ }
+    ensures { λ _. ⌜ holding (now (values .exit)) (now (latched .exit)) ≡ clocked (netOf (now (netlist .entry))) (linesIn circuit) (holding (now (values .entry)) (now (latched .entry))) ⌝ }
 {
     let n = netlist::node_count(netlist);
     start_clock(netlist, n, latched, values);
@@ -81,7 +81,7 @@ pub fn step_both(
     third: &mut [u8],
     fourth: &mut [u8],
 ) -> bool
-    ensures { λ r. ⌜ compared r (held (now (first .exit)) (now (second .exit))) (held (now (third .exit)) (now (fourth .exit))) ≡ bothStep (netOf (now (netlist .entry))) (linesOf fault) (held (now (first .entry)) (now (second .entry))) (held (now (third .entry)) (now (fourth .entry))) ⌝ }
+    ensures { λ r. ⌜ compared r (holding (now (first .exit)) (now (second .exit))) (holding (now (third .exit)) (now (fourth .exit))) ≡ bothStep (netOf (now (netlist .entry))) (linesOf fault) (holding (now (first .entry)) (now (second .entry))) (holding (now (third .entry)) (now (fourth .entry))) ⌝ }
 {
     copy(first, third);
     run_clock(netlist, Circuit::Faulty(fault), second, first);

@@ -2,9 +2,6 @@ use borrow.Author.Tests.{eq-eqb, ne-eqb}
 use borrow.Author.Needs.{needs}
 use Rattle.capi.proofs.circuit_of.Statement.{statement}
 use Rattle.capi.proofs.circuit_of.Tie as tie
-use Rattle.capi.proofs.circuit_of.Reads as reads
-use Rattle.capi.proofs.circuit_of.Lts as lts
-use Rattle.capi.proofs.fault_of.Reads as fault-of-reads
 
 returns : tie.Need-returns
 returns c = rw (eq-eqb _ _ (c .if1 .taken))

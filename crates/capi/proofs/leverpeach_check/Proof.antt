@@ -3,10 +3,6 @@ use mathlib.Core.Path.{ap}
 use borrow.Author.Needs.{needs}
 use Rattle.capi.proofs.leverpeach_check.Statement.{statement}
 use Rattle.capi.proofs.leverpeach_check.Tie as tie
-use Rattle.capi.proofs.leverpeach_check.Reads as reads
-use Rattle.capi.proofs.leverpeach_check.Lts as lts
-use Rattle.capi.proofs.number_of_check.Reads as number-of-check-reads
-use Rattle.checker.proofs.check.Reads as check-reads
 
 check-requires : tie.Need-check-requires
 check-requires c κs = search needs
@@ -21,7 +17,10 @@ same-length-2 : tie.Need-same-length-2
 same-length-2 c = search needs
 
 returns : tie.Need-returns
-returns c = (rw (c .number-of-check .ensures .0) (ap (numberedBy checkNumber) (c .before .before .before .before .before .check .ensures .0)), λ k z. c .before .before .before .before .before .check .ensures .1 k (c .number-of-check .ensures .1 k z))
+returns c =
+    let checked = c .before .before .before .before .before .check in
+    let number = c .number-of-check in
+    (rw (number .ensures .0) (ap (numberedBy checkNumber) (checked .ensures .0)), λ k z. checked .ensures .1 k (number .ensures .1 k z))
 
 pub leverpeach-check-spec : {M : Type 1} → statement M
 leverpeach-check-spec =

@@ -3,10 +3,6 @@ use Rattle.capi.specs.Numbers.{readNumber}
 use borrow.Author.Needs.{needs}
 use Rattle.capi.proofs.leverpeach_read.Statement.{statement}
 use Rattle.capi.proofs.leverpeach_read.Tie as tie
-use Rattle.capi.proofs.leverpeach_read.Reads as reads
-use Rattle.capi.proofs.leverpeach_read.Lts as lts
-use Rattle.capi.proofs.number_of_reading.Reads as number-of-reading-reads
-use Rattle.netlist.proofs.read.Reads as read-reads
 
 read-requires : tie.Need-read-requires
 read-requires c κs = search needs

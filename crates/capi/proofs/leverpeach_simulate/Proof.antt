@@ -4,11 +4,6 @@ use Rattle.capi.specs.Numbers.{numberedBy}
 use borrow.Author.Needs.{needs}
 use Rattle.capi.proofs.leverpeach_simulate.Statement.{statement}
 use Rattle.capi.proofs.leverpeach_simulate.Tie as tie
-use Rattle.capi.proofs.leverpeach_simulate.Reads as reads
-use Rattle.capi.proofs.leverpeach_simulate.Lts as lts
-use Rattle.capi.proofs.circuit_of.Reads as circuit-of-reads
-use Rattle.capi.proofs.number_of_step.Reads as number-of-step-reads
-use Rattle.simulator.proofs.simulate.Reads as simulate-reads
 
 circuit-of-requires : tie.Need-circuit-of-requires
 circuit-of-requires c κs = search needs
@@ -26,7 +21,10 @@ same-length-2 : tie.Need-same-length-2
 same-length-2 c = search needs
 
 returns : tie.Need-returns
-returns c = rw (c .number-of-step .ensures, ← c .before .before .before .before .before .before .before .before .circuit-of .ensures) (ap (numberedBy numberOf) (c .before .before .before .before .before .simulate .ensures))
+returns c =
+    let simulated = c .before .before .before .before .before in
+    let given = simulated .before .before .before .circuit-of in
+    rw (c .number-of-step .ensures, ← given .ensures) (ap (numberedBy numberOf) (simulated .simulate .ensures))
 
 pub leverpeach-simulate-spec : {M : Type 1} → statement M
 leverpeach-simulate-spec =

@@ -4,8 +4,6 @@ use mathlib.Core.Path.{_≡_, ap, _∙_}
 use borrow.Author.Needs.{needs}
 use Rattle.capi.proofs.number_of_check.Statement.{statement}
 use Rattle.capi.proofs.number_of_check.Tie as tie
-use Rattle.capi.proofs.number_of_check.Reads as reads
-use Rattle.capi.proofs.number_of_check.Lts as lts
 
 enum-known-answer : tie.Need-enum-known-answer
 enum-known-answer c = search needs

@@ -6,8 +6,6 @@ use Rattle.netlist.specs.Answer.{refused}
 use borrow.Author.Needs.{needs}
 use Rattle.capi.proofs.number_of_finding.Statement.{statement}
 use Rattle.capi.proofs.number_of_finding.Tie as tie
-use Rattle.capi.proofs.number_of_finding.Reads as reads
-use Rattle.capi.proofs.number_of_finding.Lts as lts
 
 enum-known-answer : tie.Need-enum-known-answer
 enum-known-answer c = search needs

@@ -1,8 +1,6 @@
 use borrow.Author.Needs.{needs}
 use Rattle.capi.proofs.number_of_reading.Statement.{statement}
 use Rattle.capi.proofs.number_of_reading.Tie as tie
-use Rattle.capi.proofs.number_of_reading.Reads as reads
-use Rattle.capi.proofs.number_of_reading.Lts as lts
 
 enum-known-answer : tie.Need-enum-known-answer
 enum-known-answer c = search needs

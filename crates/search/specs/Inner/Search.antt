@@ -5,7 +5,7 @@ use Prim.Native.Nat.{ℕ}
 use Rattle.netlist.specs.Answer.{answered, refusal, refused}
 use Rattle.netlist.specs.Netlist.{netOf, reading}
 use Rattle.trace.specs.Trace.{cleared}
-use Rattle.search.specs.FinderCall.{FinderCall, finderTests, windowSize}
+use Rattle.search.specs.FinderCall.{FinderCall, finderTests, largestWindow}
 use Rattle.search.specs.FirstSplit.{firstSplit}
 use Rattle.search.specs.declared.answer.Searched.{Searched}
 use Rattle.splits.specs.declared.split.Split.{Split}
@@ -31,7 +31,7 @@ unsearched k a = searchOutcome (Searched.Refused k) (a .first) (a .second)
 -- Else the first split that closes is the answer, or none, and the first N × W bytes of both slices are 0.
 abbrev pub searchMade : FinderCall → SearchOutcome
 searchMade a =
-    searchOutcome (atSplit (firstSplit (netOf (a .netlist)) (a .fault) (a .b) (a .f))) (cleared (windowSize a) (a .first)) (cleared (windowSize a) (a .second))
+    searchOutcome (atSplit (firstSplit (netOf (a .netlist)) (a .fault) (a .b) (a .f))) (cleared (largestWindow a) (a .first)) (cleared (largestWindow a) (a .second))
 
 -- what the search answers, and leaves in the work slices
 unfoldable pub searching : FinderCall → SearchOutcome

@@ -167,7 +167,7 @@ fn turn_over(n: u16, flags: &mut [u8]) -> bool {
 }
 
 // The faulted node may be touched through its pin; a flip-flop only a frame later, by the rule below.
-fn mark_site(netlist: &[u8], node: u16, flags: &mut [u8]) {
+fn touch_site(netlist: &[u8], node: u16, flags: &mut [u8]) {
     if netlist::kind_of(netlist, node) != FLIP_FLOP {
         set_flag(flags, node, PENDING);
     }
@@ -223,7 +223,7 @@ fn lives(netlist: &[u8], window: Window, fan: &[u16], known: &[u8], flags: &mut 
     let n = window.n;
     let fault = window.fault;
     let row = row_of(n, window.c);
-    mark_site(netlist, fault.node, flags);
+    touch_site(netlist, fault.node, flags);
     if touch_frame(netlist, n, Circuit::Faulty(fault), fan, row, known, flags) {
         return true;
     }

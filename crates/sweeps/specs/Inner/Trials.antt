@@ -33,14 +33,14 @@ windowStands netlist f F s places =
 unfoldable pub windowBytes : Net → (ℕ → StuckLines) → ℕ → List ℕ → List ℕ
 windowBytes net S W l = table (λ p. known net S l (p % net .size) (p / net .size)) (net .size * W)
 
--- an answer, and what the lent slices of values and of marks then hold
+-- an answer, and what the lent slices of values and of what is touched then hold
 pub record Tried : Type 0 where
   pub answer : Bool
   pub known : List ℕ
-  pub marks : List ℕ
+  pub touched : List ℕ
 
 abbrev pub tried : Bool → List ℕ → List ℕ → Tried
-tried answer known marks = record { answer = answer; known = known; marks = marks }
+tried answer known touched = record { answer = answer; known = known; touched = touched }
 
 -- the branch of a split that is worked out last: branch 1 only where branch 0 closes
 unfoldable pub lastBranch : Net → Fault → ℕ → Split → Branch
@@ -49,11 +49,11 @@ lastBranch net f F s = branchOf net f F s (cond (closes net (linesOf f) (s .c) F
 -- Whether both branches of a split close. What is known in the branch that was worked out last then stands in the one slice, and the other
 -- is 0. Where the window does not stand or a slice has another length, nothing is said to close, and nothing is altered.
 unfoldable pub trying : List ℕ → Fault → ℕ → Split → List ℕ → List ℕ → Tried
-trying netlist f F s values marks =
+trying netlist f F s values touched =
     let net = netOf netlist in
-    cond (windowStands netlist f F s (length values) && eqb (length marks) (length values))
-    (tried (splitCloses net f F s) (windowBytes net (presentBelow (s .c) (linesOf f)) (s .c + F + 1) (lastBranch net f F s .values)) (replicate (length marks) 0))
-    (tried false values marks)
+    cond (windowStands netlist f F s (length values) && eqb (length touched) (length values))
+    (tried (splitCloses net f F s) (windowBytes net (presentBelow (s .c) (linesOf f)) (s .c + F + 1) (lastBranch net f F s .values)) (replicate (length touched) 0))
+    (tried false values touched)
 
 -- the bytes have the values that the fault holds below frame c, in a circuit of N nodes
 unfoldable pub hasHeld : ℕ → Fault → ℕ → List ℕ → Bool
@@ -65,22 +65,22 @@ sweptOnce net f c F values = sweep (inBytes (net .size)) net (presentBelow c (li
 
 -- the effect is followed through a set that a sweep has left as it was
 unfoldable pub following : Net → Fault → ℕ → ℕ → Work → List ℕ → Tried
-following net f c F swept marks =
-    let t = tracing net (linesOf f) c F (knownIn (swept .known) (net .size)) marks in
-    cond (eqb (swept .steps) 0) (tried (not (t .dies)) (swept .known) (t .marks)) (tried false (swept .known) marks)
+following net f c F swept touched =
+    let t = tracing net (linesOf f) c F (knownIn (swept .known) (net .size)) touched in
+    cond (eqb (swept .steps) 0) (tried (not (t .dies)) (swept .known) (t .touched)) (tried false (swept .known) touched)
 
 -- the window of c is not too long, and both slices have a byte for each of its places; N: the number of nodes
-unfoldable pub slicesFit : ℕ → ℕ → ℕ → List ℕ → List ℕ → Bool
-slicesFit N c F values marks = leb (c + F + 1) mostFrames && (eqb (length values) (N * (c + F + 1)) && eqb (length marks) (N * (c + F + 1)))
+unfoldable pub workFits : ℕ → ℕ → ℕ → List ℕ → List ℕ → Bool
+workFits N c F values touched = leb (c + F + 1) mostFrames && (eqb (length values) (N * (c + F + 1)) && eqb (length touched) (N * (c + F + 1)))
 
 -- Whether a set of values is open in the window of c: it has the held values, a sweep makes no step, and in it the effect does not die.
 -- Where the window is too long or a slice has another length, nothing is said to be open, and nothing is altered.
 unfoldable pub opening : List ℕ → Fault → ℕ → ℕ → List ℕ → List ℕ → Tried
-opening netlist f c F values marks =
+opening netlist f c F values touched =
     let net = netOf netlist in
-    cond (slicesFit (net .size) c F values marks && hasHeld (net .size) f c values)
-    (following net f c F (sweptOnce net f c F values) marks)
-    (tried false values marks)
+    cond (workFits (net .size) c F values touched && hasHeld (net .size) f c values)
+    (following net f c F (sweptOnce net f c F values) touched)
+    (tried false values touched)
 
 -- a step count, and what the lent slices of values and of the certificate then hold
 pub record Certified : Type 0 where
@@ -100,7 +100,7 @@ certifying netlist f F s values certificate =
     (certified (stepCount net f F s) (replicate (length values) 0) (written (certificateFor net f F s) certificate))
     (certified 0 values certificate)
 
--- an answer, and what the lent slices of values, of marks and of notes then hold
+-- an answer, and what the lent slices of values, of what is touched and of notes then hold
 pub record Noting : Type 0 where
   pub tried : Tried
   pub noted : List ℕ
@@ -110,6 +110,6 @@ noting t noted = record { tried = t; noted = noted }
 
 -- a set of values is noted where it is open
 unfoldable pub notingOpen : List ℕ → Fault → ℕ → ℕ → List ℕ → List ℕ → List ℕ → Noting
-notingOpen netlist f c F values marks noted =
-    let t = opening netlist f c F values marks in
+notingOpen netlist f c F values touched noted =
+    let t = opening netlist f c F values touched in
     noting t (cond (t .answer) (notedWith (t .known) c noted) noted)

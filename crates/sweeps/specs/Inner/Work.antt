@@ -11,7 +11,7 @@ use Rattle.gates.specs.Value.{isUnknown}
 use Rattle.circuit.specs.Fault.{StuckLines, linesOf}
 use Rattle.netlist.specs.Netlist.{Net}
 use Rattle.circuit.specs.declared.fault.Fault.{Fault}
-use Rattle.trace.specs.Trace.{mark}
+use Rattle.trace.specs.Trace.{oneIf}
 use Rattle.knowledge.specs.Inner.Slice.{enterAt, knownIn}
 use Rattle.knowledge.specs.Window.{presentBelow}
 use Rattle.certificate.specs.declared.step.Step.{Step}
@@ -42,11 +42,11 @@ inBytes N = record { closed = λ w. w .closed; knows = λ w. knownIn (w .known) 
 -- how many places of a work slice are unknown
 unfoldable pub unknowns : List ℕ → ℕ
 unknowns [] = 0
-unknowns (v ∷ vs) = mark (isUnknown v) + unknowns vs
+unknowns (v ∷ vs) = oneIf (isUnknown v) + unknowns vs
 
 -- the steps made and those that may come: a place for each unknown value, and one more while the branch is open
 unfoldable pub tally : Work → ℕ
-tally w = w .steps + unknowns (w .known) + mark (not (w .closed))
+tally w = w .steps + unknowns (w .known) + oneIf (not (w .closed))
 
 -- Calm frames, a byte for each, 0 where nothing is said: the sweep of a calm frame changes nothing.
 unfoldable pub CalmFrames : Net → (ℕ → StuckLines) → List ℕ → Work → Type 0

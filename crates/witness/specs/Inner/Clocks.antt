@@ -18,8 +18,8 @@ pub record Held : Type 0 where
   pub values : List ℕ
   pub latched : List ℕ
 
-abbrev pub held : List ℕ → List ℕ → Held
-held values latched = record { values = values; latched = latched }
+abbrev pub holding : List ℕ → List ℕ → Held
+holding values latched = record { values = values; latched = latched }
 
 -- what a clock step is given, for the first n nodes: the latched value l at a flip-flop's place, elsewhere what stands there
 unfoldable pub started : Net → List ℕ → ℕ → List ℕ → List ℕ
@@ -29,7 +29,7 @@ started net l n values = rewritten (λ e. clockStart net e l) n values
 unfoldable pub clocked : Net → StuckLines → Held → Held
 clocked net s h =
     let seen = settled net s (net .size) (started net (h .latched) (net .size) (h .values)) in
-    held seen (latchedInto net s (at seen) (net .size) (h .latched))
+    holding seen (latchedInto net s (at seen) (net .size) (h .latched))
 
 -- node n is an output, and has not the same value in both lists
 unfoldable pub outputDiffers : Net → List ℕ → List ℕ → ℕ → Bool
@@ -48,5 +48,5 @@ compared differs faulty good = record { differs = differs; faulty = faulty; good
 unfoldable pub bothStep : Net → StuckLines → Held → Held → Compared
 bothStep net s f g =
     let faulty = clocked net s f in
-    let good = clocked net noneStuck (held (sets (g .values) 0 (f .values)) (g .latched)) in
+    let good = clocked net noneStuck (holding (sets (g .values) 0 (f .values)) (g .latched)) in
     compared (any (outputDiffers net (faulty .values) (good .values)) (net .size)) faulty good

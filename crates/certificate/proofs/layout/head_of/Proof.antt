@@ -1,12 +1,6 @@
 use borrow.Author.Needs.{needs}
 use Rattle.certificate.proofs.layout.head_of.Statement.{statement}
 use Rattle.certificate.proofs.layout.head_of.Tie as tie
-use Rattle.certificate.proofs.layout.head_of.Reads as reads
-use Rattle.certificate.proofs.layout.head_of.Lts as lts
-use Rattle.values.proofs.byte_at.Reads as byte-at-reads
-use Rattle.values.proofs.tail.Reads as tail-reads
-use Rattle.values.proofs.u16_at.Reads as u16-at-reads
-use Rattle.circuit.proofs.site_of.Reads as site-of-reads
 
 byte-at-requires : tie.Need-byte-at-requires
 byte-at-requires c κs = search needs
@@ -36,7 +30,11 @@ byte-at-requires-5 : tie.Need-byte-at-requires-5
 byte-at-requires-5 c κs = search needs
 
 returns : tie.Need-returns
-returns c = rw (c .byte-at5 .ensures, c .before .u16-at2 .ensures, c .before .before .byte-at4 .ensures, c .before .before .before .byte-at3 .ensures, c .before .before .before .before .tail .ensures, c .before .before .before .before .before .byte-at2 .ensures, c .before .before .before .before .before .before .u16-at .ensures, c .before .before .before .before .before .before .before .site-of .ensures, c .before .before .before .before .before .before .before .before .byte-at .ensures)
+returns c =
+    let t = c .before .before .before .before in
+    let n = t .before .before in
+    rw (c .byte-at5 .ensures, c .before .u16-at2 .ensures, c .before .before .byte-at4 .ensures, c .before .before .before .byte-at3 .ensures)
+    (rw (t .tail .ensures, t .before .byte-at2 .ensures, n .u16-at .ensures, n .before .site-of .ensures, n .before .before .byte-at .ensures))
 
 pub head-of-spec : {M : Type 1} → statement M
 head-of-spec =

@@ -7,10 +7,6 @@ use Rattle.certificate.specs.Inner.Reading.{nextStep}
 use borrow.Author.Needs.{needs}
 use Rattle.certificate.proofs.reader.step_from.Statement.{statement}
 use Rattle.certificate.proofs.reader.step_from.Tie as tie
-use Rattle.certificate.proofs.reader.step_from.Reads as reads
-use Rattle.certificate.proofs.reader.step_from.Lts as lts
-use Rattle.certificate.proofs.step.step_at.Reads as step-at-reads
-use Rattle.values.proofs.tail.Reads as tail-reads
 
 returns : tie.Need-returns
 unfolding nextStep

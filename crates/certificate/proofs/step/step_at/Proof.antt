@@ -1,10 +1,6 @@
 use borrow.Author.Needs.{needs}
 use Rattle.certificate.proofs.step.step_at.Statement.{statement}
 use Rattle.certificate.proofs.step.step_at.Tie as tie
-use Rattle.certificate.proofs.step.step_at.Reads as reads
-use Rattle.certificate.proofs.step.step_at.Lts as lts
-use Rattle.values.proofs.byte_at.Reads as byte-at-reads
-use Rattle.values.proofs.u16_at.Reads as u16-at-reads
 
 u16-at-requires : tie.Need-u16-at-requires
 u16-at-requires c κs = search needs
@@ -22,7 +18,9 @@ byte-at-requires-3 : tie.Need-byte-at-requires-3
 byte-at-requires-3 c κs = search needs
 
 returns : tie.Need-returns
-returns c = rw (c .before .before .before .before .u16-at .ensures, c .before .before .before .byte-at .ensures, c .before .before .byte-at2 .ensures, c .before .u16-at2 .ensures, c .byte-at3 .ensures)
+returns c =
+    let f = c .before .before in
+    rw (f .before .before .u16-at .ensures, f .before .byte-at .ensures, f .byte-at2 .ensures, c .before .u16-at2 .ensures, c .byte-at3 .ensures)
 
 pub step-at-spec : {M : Type 1} → statement M
 step-at-spec =

@@ -9,12 +9,9 @@ use Rattle.certificate.specs.Written.{stepBytes}
 use borrow.Author.Needs.{needs}
 use Rattle.certificate.proofs.writer.put_step.Statement.{statement}
 use Rattle.certificate.proofs.writer.put_step.Tie as tie
-use Rattle.certificate.proofs.writer.put_step.Reads as reads
-use Rattle.certificate.proofs.writer.put_step.Lts as lts
-use Rattle.certificate.proofs.writer.write_step.Reads as write-step-reads
 
 returns : tie.Need-returns
-returns c = sets-past (stepBytes (c .before .before .args .step)) (now (c .before .before .args .run)) (c .before .before .args .place) (c .if1 .taken)
+returns c = let a = c .before .before .args in sets-past (stepBytes (a .step)) (now (a .run)) (a .place) (c .if1 .taken)
 
 sub-write-step : tie.Need-sub-write-step
 sub-write-step c = search needs
@@ -32,8 +29,12 @@ same-length : tie.Need-same-length
 same-length c = search needs
 
 returns-2 : tie.Need-returns-2
-returns-2 c = let a = c .before .before .before .before .before .before .args in
-    ap (putMid (a .place) (length (now (a .run)) - a .place) (now (a .run))) (c .before .before .write-step .ensures) ∙ sets-in-part (stepBytes (a .step)) (now (a .run)) (a .place) (omega (arith, c .before .before .before .before .if1 .left))
+returns-2 c =
+    let e = c .before .before .before .before in
+    let a = e .before .before .args in
+    let run = now (a .run) in
+    ap (putMid (a .place) (length run - a .place) run) (c .before .before .write-step .ensures)
+    ∙ sets-in-part (stepBytes (a .step)) run (a .place) (omega (arith, e .if1 .left))
 
 pub put-step-spec : {M : Type 1} → statement M
 put-step-spec =

@@ -7,10 +7,6 @@ use Rattle.certificate.specs.Written.{headBytes}
 use borrow.Author.Needs.{needs}
 use Rattle.certificate.proofs.writer.write_head.Statement.{statement}
 use Rattle.certificate.proofs.writer.write_head.Tie as tie
-use Rattle.certificate.proofs.writer.write_head.Reads as reads
-use Rattle.certificate.proofs.writer.write_head.Lts as lts
-use Rattle.certificate.proofs.writer.write_named.Reads as write-named-reads
-use Rattle.certificate.proofs.writer.write_pairs.Reads as write-pairs-reads
 
 write-named-requires : tie.Need-write-named-requires
 write-named-requires c κs = search needs

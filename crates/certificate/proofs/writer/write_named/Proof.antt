@@ -7,11 +7,6 @@ use Rattle.values.specs.Lists.{bytes₂}
 use borrow.Author.Needs.{needs}
 use Rattle.certificate.proofs.writer.write_named.Statement.{statement}
 use Rattle.certificate.proofs.writer.write_named.Tie as tie
-use Rattle.certificate.proofs.writer.write_named.Reads as reads
-use Rattle.certificate.proofs.writer.write_named.Lts as lts
-use Rattle.circuit.proofs.site_byte.Reads as site-byte-reads
-use Rattle.values.proofs.put_u16.Reads as put-u16-reads
-use Rattle.values.proofs.store.Reads as store-reads
 
 put-u16-requires : tie.Need-put-u16-requires
 put-u16-requires c κs = search needs

@@ -7,9 +7,6 @@ use Rattle.certificate.specs.Certificate.{headLength}
 use borrow.Author.Needs.{needs}
 use Rattle.certificate.proofs.writer.write_pairs.Statement.{statement}
 use Rattle.certificate.proofs.writer.write_pairs.Tie as tie
-use Rattle.certificate.proofs.writer.write_pairs.Reads as reads
-use Rattle.certificate.proofs.writer.write_pairs.Lts as lts
-use Rattle.values.proofs.put_u32.Reads as put-u32-reads
 
 cast-first : tie.Need-cast-first
 cast-first c = search needs

@@ -7,10 +7,6 @@ use Rattle.values.specs.Lists.{bytes₂}
 use borrow.Author.Needs.{needs}
 use Rattle.certificate.proofs.writer.write_step.Statement.{statement}
 use Rattle.certificate.proofs.writer.write_step.Tie as tie
-use Rattle.certificate.proofs.writer.write_step.Reads as reads
-use Rattle.certificate.proofs.writer.write_step.Lts as lts
-use Rattle.values.proofs.store.Reads as store-reads
-use Rattle.values.proofs.put_u16.Reads as put-u16-reads
 
 put-u16-requires : tie.Need-put-u16-requires
 put-u16-requires c κs = search needs

@@ -9,12 +9,6 @@ use Prim.Native.Nat.{_<_}
 use borrow.Author.Needs.{needs}
 use Rattle.fault_list.proofs.faults.fault_after.Statement.{statement}
 use Rattle.fault_list.proofs.faults.fault_after.Tie as tie
-use Rattle.fault_list.proofs.faults.fault_after.Reads as reads
-use Rattle.fault_list.proofs.faults.fault_after.Lts as lts
-use Rattle.netlist.proofs.node_count.Reads as node-count-reads
-use Rattle.fault_list.proofs.faults.first_of.Reads as first-of-reads
-use Rattle.fault_list.proofs.faults.named_pins.Reads as named-pins-reads
-use Rattle.fault_list.proofs.faults.site_after.Reads as site-after-reads
 
 node-count-requires : tie.Need-node-count-requires
 node-count-requires c κs = search needs

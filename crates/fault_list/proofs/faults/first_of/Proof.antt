@@ -4,10 +4,6 @@ use denote.Ref.{now}
 use borrow.Author.Needs.{needs}
 use Rattle.fault_list.proofs.faults.first_of.Statement.{statement}
 use Rattle.fault_list.proofs.faults.first_of.Tie as tie
-use Rattle.fault_list.proofs.faults.first_of.Reads as reads
-use Rattle.fault_list.proofs.faults.first_of.Lts as lts
-use Rattle.netlist.proofs.length_of.Reads as length-of-reads
-use Rattle.fault_list.proofs.faults.first_site.Reads as first-site-reads
 
 length-of-requires : tie.Need-length-of-requires
 length-of-requires c κs = search needs

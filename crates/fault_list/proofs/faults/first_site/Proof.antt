@@ -1,8 +1,6 @@
 use borrow.Author.Tests.{lt-ltb, le-ltb}
 use Rattle.fault_list.proofs.faults.first_site.Statement.{statement}
 use Rattle.fault_list.proofs.faults.first_site.Tie as tie
-use Rattle.fault_list.proofs.faults.first_site.Reads as reads
-use Rattle.fault_list.proofs.faults.first_site.Lts as lts
 
 returns : tie.Need-returns
 returns c = rw (lt-ltb _ _ (c .if1 .taken))

@@ -10,9 +10,6 @@ use Rattle.fault_list.proofs.WalkLaws.{named-cut, named-same}
 use borrow.Author.Needs.{needs}
 use Rattle.fault_list.proofs.faults.named_pins.Statement.{statement}
 use Rattle.fault_list.proofs.faults.named_pins.Tie as tie
-use Rattle.fault_list.proofs.faults.named_pins.Reads as reads
-use Rattle.fault_list.proofs.faults.named_pins.Lts as lts
-use Rattle.netlist.proofs.length_of.Reads as length-of-reads
 
 length-of-requires : tie.Need-length-of-requires
 length-of-requires c κs = search needs

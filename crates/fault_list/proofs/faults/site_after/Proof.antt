@@ -2,8 +2,6 @@ use borrow.Author.Tests.{lt-ltb, le-ltb}
 use borrow.Author.Needs.{needs}
 use Rattle.fault_list.proofs.faults.site_after.Statement.{statement}
 use Rattle.fault_list.proofs.faults.site_after.Tie as tie
-use Rattle.fault_list.proofs.faults.site_after.Reads as reads
-use Rattle.fault_list.proofs.faults.site_after.Lts as lts
 
 add-if1 : tie.Need-add-if1
 add-if1 c = search needs

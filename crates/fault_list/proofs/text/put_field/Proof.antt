@@ -5,10 +5,6 @@ use denote.Ref.{now}
 use borrow.Author.Needs.{needs}
 use Rattle.fault_list.proofs.text.put_field.Statement.{statement}
 use Rattle.fault_list.proofs.text.put_field.Tie as tie
-use Rattle.fault_list.proofs.text.put_field.Reads as reads
-use Rattle.fault_list.proofs.text.put_field.Lts as lts
-use Rattle.fault_list.proofs.text.put_decimal.Reads as put-decimal-reads
-use Rattle.fault_list.proofs.text.store_behind.Reads as store-behind-reads
 
 put-decimal-requires : tie.Need-put-decimal-requires
 put-decimal-requires c κs = search needs

@@ -9,9 +9,6 @@ use mathlib.Core.Path.{_∙_, _≡_, ap, refl}
 use Prim.Native.Nat.{_-_, _<_, _≤_}
 use Rattle.fault_list.proofs.text.put_text.Statement.{statement}
 use Rattle.fault_list.proofs.text.put_text.Tie as tie
-use Rattle.fault_list.proofs.text.put_text.Reads as reads
-use Rattle.fault_list.proofs.text.put_text.Lts as lts
-use Rattle.fault_list.proofs.text.store_behind.Reads as store-behind-reads
 
 abbrev Inv-loop : tie.InvT-loop
 Inv-loop out₀ place text i₀ out i = (i ≤ length text) × (length out ≡ length out₀) × (out ≡ sets out₀ place (take i text))

@@ -9,9 +9,6 @@ use lib.Seq.{set-out}
 use borrow.Author.Needs.{needs}
 use Rattle.fault_list.proofs.text.store_behind.Statement.{statement}
 use Rattle.fault_list.proofs.text.store_behind.Tie as tie
-use Rattle.fault_list.proofs.text.store_behind.Reads as reads
-use Rattle.fault_list.proofs.text.store_behind.Lts as lts
-use Rattle.values.proofs.store.Reads as store-reads
 
 add-store : tie.Need-add-store
 add-store c = let s = c .before .before .before .before in

@@ -7,8 +7,6 @@ use Rattle.gates.proofs.ValueLaws.{and-zero, and-unknown}
 use borrow.Author.Needs.{needs}
 use Rattle.gates.proofs.kind.and_of.Statement.{statement}
 use Rattle.gates.proofs.kind.and_of.Tie as tie
-use Rattle.gates.proofs.kind.and_of.Reads as reads
-use Rattle.gates.proofs.kind.and_of.Lts as lts
 
 returns : tie.Need-returns
 returns c = let a = c .before .args in

@@ -1,8 +1,6 @@
 use borrow.Author.Tests.{eq-eqb, ne-eqb}
 use Rattle.gates.proofs.kind.is_given.Statement.{statement}
 use Rattle.gates.proofs.kind.is_given.Tie as tie
-use Rattle.gates.proofs.kind.is_given.Reads as reads
-use Rattle.gates.proofs.kind.is_given.Lts as lts
 
 returns : tie.Need-returns
 returns c = rw (eq-eqb _ _ (c .if1 .taken))

@@ -1,11 +1,6 @@
 use borrow.Author.Needs.{needs}
 use Rattle.gates.proofs.kind.join_of.Statement.{statement}
 use Rattle.gates.proofs.kind.join_of.Tie as tie
-use Rattle.gates.proofs.kind.join_of.Reads as reads
-use Rattle.gates.proofs.kind.join_of.Lts as lts
-use Rattle.gates.proofs.kind.and_of.Reads as and-of-reads
-use Rattle.gates.proofs.kind.or_of.Reads as or-of-reads
-use Rattle.gates.proofs.kind.xor_of.Reads as xor-of-reads
 
 enum-told : tie.Need-enum-told
 enum-told c = search needs

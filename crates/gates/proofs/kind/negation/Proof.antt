@@ -5,8 +5,6 @@ use Rattle.gates.proofs.ValueLaws.{neg-unknown}
 use borrow.Author.Needs.{needs}
 use Rattle.gates.proofs.kind.negation.Statement.{statement}
 use Rattle.gates.proofs.kind.negation.Tie as tie
-use Rattle.gates.proofs.kind.negation.Reads as reads
-use Rattle.gates.proofs.kind.negation.Lts as lts
 
 returns : tie.Need-returns
 returns c = search needs

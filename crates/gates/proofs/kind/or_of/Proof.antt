@@ -7,8 +7,6 @@ use Rattle.gates.proofs.ValueLaws.{or-one, or-unknown}
 use borrow.Author.Needs.{needs}
 use Rattle.gates.proofs.kind.or_of.Statement.{statement}
 use Rattle.gates.proofs.kind.or_of.Tie as tie
-use Rattle.gates.proofs.kind.or_of.Reads as reads
-use Rattle.gates.proofs.kind.or_of.Lts as lts
 
 returns : tie.Need-returns
 returns c = let a = c .before .args in

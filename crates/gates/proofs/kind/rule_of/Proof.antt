@@ -6,9 +6,6 @@ use Rattle.gates.proofs.KindLaws.{rule-one-pin, rule-and, rule-or, rule
 use borrow.Author.Needs.{needs}
 use Rattle.gates.proofs.kind.rule_of.Statement.{statement}
 use Rattle.gates.proofs.kind.rule_of.Tie as tie
-use Rattle.gates.proofs.kind.rule_of.Reads as reads
-use Rattle.gates.proofs.kind.rule_of.Lts as lts
-use Rattle.gates.proofs.kind.rule_with.Reads as rule-with-reads
 
 rule-with-requires : tie.Need-rule-with-requires
 rule-with-requires c κs = search needs

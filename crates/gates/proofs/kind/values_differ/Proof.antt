@@ -3,8 +3,6 @@ use borrow.Author.Tests.{le-ltb}
 use Rattle.gates.proofs.ValueLaws.{differ-known, differ-unknown, differ-unknown-first}
 use Rattle.gates.proofs.kind.values_differ.Statement.{statement}
 use Rattle.gates.proofs.kind.values_differ.Tie as tie
-use Rattle.gates.proofs.kind.values_differ.Reads as reads
-use Rattle.gates.proofs.kind.values_differ.Lts as lts
 
 returns : tie.Need-returns
 returns c = differ-known (c .before .before .args .v) (c .before .before .args .w) (c .before .if1 .taken) (c .if2 .taken)

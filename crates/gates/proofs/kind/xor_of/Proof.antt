@@ -5,9 +5,6 @@ use Rattle.gates.proofs.ValueLaws.{xor-unknown}
 use borrow.Author.Needs.{needs}
 use Rattle.gates.proofs.kind.xor_of.Statement.{statement}
 use Rattle.gates.proofs.kind.xor_of.Tie as tie
-use Rattle.gates.proofs.kind.xor_of.Reads as reads
-use Rattle.gates.proofs.kind.xor_of.Lts as lts
-use Rattle.gates.proofs.kind.negation.Reads as negation-reads
 
 negation-requires : tie.Need-negation-requires
 negation-requires c κs = search needs

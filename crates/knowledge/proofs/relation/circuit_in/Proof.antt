@@ -3,8 +3,6 @@ use Rattle.circuit.specs.Fault.{linesIn, linesOf}
 use Rattle.knowledge.proofs.RelationLaws.{present-below, absent-from}
 use Rattle.knowledge.proofs.relation.circuit_in.Statement.{statement}
 use Rattle.knowledge.proofs.relation.circuit_in.Tie as tie
-use Rattle.knowledge.proofs.relation.circuit_in.Reads as reads
-use Rattle.knowledge.proofs.relation.circuit_in.Lts as lts
 
 returns : tie.Need-returns
 unfolding linesIn

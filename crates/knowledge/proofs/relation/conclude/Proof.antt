@@ -1,27 +1,55 @@
-use Prim.Native.Nat.{ℕ}
-use mathlib.Core.Path.{_∙_, ap}
+-- What a relation concludes, by its definition's two cases: of the output (`conclude-output`) and of a pin's source (`conclude-pin`).
+-- Both want the relation's parts, which are worked out before the cases part: `tie.After-tail` is the place behind them. There
+-- `frame-is` says that the pins' frame is right, `nodes-are` the number of nodes, `lines-are` the stuck lines in that frame, and
+-- `values-are` that the values are those of the known slice from that frame's first place on.
+use Prim.Native.Nat.{ℕ, _*_, _+_}
+use mathlib.Core.List.{List}
+use mathlib.Core.Path.{_≡_, _∙_, ap}
 use lib.ListN.{drop}
 use denote.Ref.{now}
-use Rattle.netlist.specs.Netlist.{netOf}
+use borrow.Author.Needs.{needs}
 use Rattle.values.specs.Lists.{at}
-use Rattle.circuit.specs.Fault.{linesIn, linesOf}
+use Rattle.netlist.specs.Netlist.{Net, netOf}
+use Rattle.circuit.specs.Fault.{StuckLines, linesIn, linesOf}
 use Rattle.knowledge.specs.Window.{pinFrame, presentBelow}
 use Rattle.knowledge.proofs.WindowLaws.{conclude-output, conclude-pin}
-use borrow.Author.Needs.{needs}
 use Rattle.knowledge.proofs.relation.conclude.Statement.{statement}
 use Rattle.knowledge.proofs.relation.conclude.Tie as tie
-use Rattle.knowledge.proofs.relation.conclude.Reads as reads
-use Rattle.knowledge.proofs.relation.conclude.Lts as lts
-use Rattle.knowledge.proofs.relation.circuit_in.Reads as circuit-in-reads
-use Rattle.knowledge.proofs.relation.pin_conclusion.Reads as pin-conclusion-reads
-use Rattle.knowledge.proofs.relation.pin_frame.Reads as pin-frame-reads
-use Rattle.knowledge.proofs.relation.pin_source.Reads as pin-source-reads
-use Rattle.knowledge.proofs.window.place_of.Reads as place-of-reads
-use Rattle.values.proofs.byte_at.Reads as byte-at-reads
-use Rattle.values.proofs.tail.Reads as tail-reads
-use Rattle.simulator.proofs.gate_value.Reads as gate-value-reads
-use Rattle.netlist.proofs.kind_of.Reads as kind-of-reads
-use Rattle.netlist.proofs.node_count.Reads as node-count-reads
+
+abbrev start : tie.After-tail → tie.Start
+start e = e .before .before .before .before .before .before .before .before
+
+abbrev net : tie.After-tail → Net
+net e = netOf (now (start e .args .netlist))
+
+abbrev stuck : tie.After-tail → ℕ → StuckLines
+stuck e = presentBelow (start e .args .c) (linesOf (start e .args .fault))
+
+abbrev known : tie.After-tail → List ℕ
+known e = now (start e .args .known)
+
+-- the frame of the pins
+abbrev frame : tie.After-tail → ℕ
+frame e = e .before .before .before .pin-frame .result
+
+abbrev nodes : tie.After-tail → ℕ
+nodes e = e .before .before .before .before .before .node-count .result
+
+frame-is : (e : tie.After-tail) → frame e ≡ pinFrame (net e .kind (start e .args .node)) (start e .args .frame)
+unfolding netOf
+frame-is e =
+    let f = e .before .before .before in
+    f .pin-frame .ensures ∙ ap (λ (k : ℕ). pinFrame k (start e .args .frame)) (f .before .kind-of .ensures)
+
+nodes-are : (e : tie.After-tail) → nodes e ≡ net e .size
+unfolding netOf
+nodes-are e = e .before .before .before .before .before .node-count .ensures
+
+lines-are : (e : tie.After-tail) → linesIn (e .before .before .circuit-in .result) ≡ stuck e (frame e)
+lines-are e = e .before .before .circuit-in .ensures
+
+values-are : (e : tie.After-tail) → now (e .tail .result) ≡ drop (frame e * nodes e + 0) (known e)
+values-are e = e .tail .ensures ∙ ap (λ (k : ℕ). drop k (known e)) (e .before .place-of .ensures)
 
 node-count-requires : tie.Need-node-count-requires
 node-count-requires c κs = search needs
@@ -49,12 +77,12 @@ gate-value-requires c κs = search needs
 
 returns : tie.Need-returns
 unfolding netOf
-returns c = let a = c .before .before .before .before .before .before .before .before .before .before .args in
-    let s = now (a .netlist) in
-    let hp = c .before .before .before .before .before .pin-frame .ensures ∙ ap (λ (k : ℕ). pinFrame k (a .frame)) (c .before .before .before .before .before .before .kind-of .ensures) in
-    let hv = c .before .before .tail .ensures ∙ ap (λ (k : ℕ). drop k (now (a .known))) (c .before .before .before .place-of .ensures) in
+returns c =
+    let e = c .before .before in
+    let a = start e .args in
     rw (c .before .if1 .taken)
-    (conclude-output (netOf s) (presentBelow (a .c) (linesOf (a .fault))) (now (a .known)) (a .node) (a .frame) (c .before .before .before .before .before .pin-frame .result) (c .before .before .before .before .before .before .before .node-count .result) (linesIn (c .before .before .before .before .circuit-in .result)) (now (c .before .before .tail .result)) hp (c .before .before .before .before .before .before .before .node-count .ensures) (c .before .before .before .before .circuit-in .ensures) hv (c .gate-value .result) (c .gate-value .ensures))
+    (conclude-output (net e) (stuck e) (known e) (a .node) (a .frame) _ _ _ _ (frame-is e) (nodes-are e) (lines-are e) (values-are e)
+    (c .gate-value .result) (c .gate-value .ensures))
 
 place-of-requires-2 : tie.Need-place-of-requires-2
 place-of-requires-2 c κs = search needs
@@ -76,12 +104,13 @@ pin-conclusion-requires c κs = search needs
 
 returns-2 : tie.Need-returns-2
 unfolding netOf
-returns-2 c = let a = c .before .before .before .before .before .before .before .before .before .before .before .before .before .args in
-    let s = now (a .netlist) in
-    let hp = c .before .before .before .before .before .before .before .before .pin-frame .ensures ∙ ap (λ (k : ℕ). pinFrame k (a .frame)) (c .before .before .before .before .before .before .before .before .before .kind-of .ensures) in
-    let hv = c .before .before .before .before .before .tail .ensures ∙ ap (λ (k : ℕ). drop k (now (a .known))) (c .before .before .before .before .before .before .place-of .ensures) in
-    let ho = c .before .before .byte-at .ensures ∙ ap (at (now (a .known))) (c .before .before .before .place-of2 .ensures) in
-    conclude-pin (netOf s) (presentBelow (a .c) (linesOf (a .fault))) (now (a .known)) (a .node) (a .frame) (c .before .before .before .before .before .before .before .before .pin-frame .result) (c .before .before .before .before .before .before .before .before .before .before .node-count .result) (linesIn (c .before .before .before .before .before .before .before .circuit-in .result)) (now (c .before .before .before .before .before .tail .result)) hp (c .before .before .before .before .before .before .before .before .before .before .node-count .ensures) (c .before .before .before .before .before .before .before .circuit-in .ensures) hv (a .line) (c .before .pin-source .result) (c .before .before .byte-at .result) (c .pin-conclusion .result) (c .before .before .before .before .if1 .left) (c .before .pin-source .ensures) ho (c .pin-conclusion .ensures)
+returns-2 c =
+    let e1 = c .before .before .before .before in
+    let e = e1 .before in
+    let a = start e .args in
+    let output = c .before .before .byte-at .ensures ∙ ap (at (known e)) (c .before .before .before .place-of2 .ensures) in
+    conclude-pin (net e) (stuck e) (known e) (a .node) (a .frame) _ _ _ _ (frame-is e) (nodes-are e) (lines-are e) (values-are e)
+    (a .line) _ _ _ (e1 .if1 .left) (c .before .pin-source .ensures) output (c .pin-conclusion .ensures)
 
 pub conclude-spec : {M : Type 1} → statement M
 conclude-spec =

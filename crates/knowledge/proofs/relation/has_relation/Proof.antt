@@ -2,9 +2,6 @@ use Rattle.knowledge.proofs.WindowLaws.{relation-later}
 use borrow.Author.Needs.{needs}
 use Rattle.knowledge.proofs.relation.has_relation.Statement.{statement}
 use Rattle.knowledge.proofs.relation.has_relation.Tie as tie
-use Rattle.knowledge.proofs.relation.has_relation.Reads as reads
-use Rattle.knowledge.proofs.relation.has_relation.Lts as lts
-use Rattle.gates.proofs.is_given.Reads as is-given-reads
 
 is-given-requires : tie.Need-is-given-requires
 is-given-requires c κs = search needs

@@ -1,17 +1,21 @@
-use mathlib.Core.Path.{_∙_, ap}
+use mathlib.Core.Path.{_≡_, _∙_, ap}
 use Rattle.gates.proofs.ValueLaws.{known-low, unknown-high}
 use Rattle.netlist.specs.Netlist.{netOf}
-use Rattle.circuit.specs.Fault.{StuckLines}
-use Rattle.knowledge.specs.Window.{held, inForce}
+use Rattle.circuit.specs.Fault.{StuckLines, linesOf}
+use Rattle.knowledge.specs.Window.{held, inForce, presentBelow}
 use borrow.Author.Needs.{needs}
 use Rattle.knowledge.proofs.relation.in_force.Statement.{statement}
 use Rattle.knowledge.proofs.relation.in_force.Tie as tie
-use Rattle.knowledge.proofs.relation.in_force.Reads as reads
-use Rattle.knowledge.proofs.relation.in_force.Lts as lts
-use Rattle.knowledge.proofs.relation.circuit_in.Reads as circuit-in-reads
-use Rattle.knowledge.proofs.relation.has_relation.Reads as has-relation-reads
-use Rattle.circuit.proofs.stuck_node.Reads as stuck-node-reads
-use Rattle.netlist.proofs.kind_of.Reads as kind-of-reads
+
+abbrev start : tie.After-stuck-node → tie.Start
+start e = e .before .before .before
+
+-- the lines that are stuck in the frame, and the value that the node is stuck at there
+abbrev stuck-lines : tie.After-stuck-node → StuckLines
+stuck-lines e = let a = start e .args in presentBelow (a .c) (linesOf (a .fault)) (a .frame)
+
+stuck-is : (e : tie.After-stuck-node) → e .stuck-node .result ≡ stuck-lines e .node (start e .args .node)
+stuck-is e = e .stuck-node .ensures ∙ ap (λ (s : StuckLines). s .node (start e .args .node)) (e .before .circuit-in .ensures)
 
 circuit-in-requires : tie.Need-circuit-in-requires
 circuit-in-requires c κs = search needs
@@ -21,8 +25,7 @@ stuck-node-requires c κs = search needs
 
 returns : tie.Need-returns
 unfolding inForce held
-returns c = let e = c .before .stuck-node .ensures ∙ ap (λ (s : StuckLines). s .node (c .before .before .before .before .args .node)) (c .before .before .circuit-in .ensures) in
-    rw (← e, known-low _ (c .if1 .taken))
+returns c = rw (← stuck-is (c .before), known-low _ (c .if1 .taken))
 
 kind-of-requires : tie.Need-kind-of-requires
 kind-of-requires c κs = search needs
@@ -32,8 +35,9 @@ has-relation-requires c κs = search needs
 
 returns-2 : tie.Need-returns-2
 unfolding inForce held netOf
-returns-2 c = let e = c .before .before .before .stuck-node .ensures ∙ ap (λ (s : StuckLines). s .node (c .before .before .before .before .before .before .args .node)) (c .before .before .before .before .circuit-in .ensures) in
-    rw (← e, unknown-high _ (c .before .before .if1 .left), ← c .before .kind-of .ensures) (c .has-relation .ensures)
+returns-2 c =
+    let e1 = c .before .before in
+    rw (← stuck-is (e1 .before), unknown-high _ (e1 .if1 .left), ← c .before .kind-of .ensures) (c .has-relation .ensures)
 
 pub in-force-spec : {M : Type 1} → statement M
 in-force-spec =

@@ -1,35 +1,63 @@
-use mathlib.Core.Bool.{true, false}
-use Rattle.gates.specs.Value.{neg}
-use Rattle.gates.specs.declared.kind.Rule.{Rule}
-use Rattle.knowledge.proofs.WindowLaws.{tried, against, conclusion-stuck, conclusion-first, conclusion-second, conclusion-none}
+-- A pin's conclusion, test by test, by the four laws `conclusion-` of the definition. Through a stuck pin nothing is concluded
+-- (`returns`). Behind that test the pin is not stuck, and `first` is the controlling value, `second` its opposite: `first-is` and
+-- `second-is` say so at the place where both are known. `first-differs` and `second-differs` are the two tests of the code, each as the
+-- definition has it: whether the output would be another with that value at the pin. The three other returns put them together.
+use Prim.Native.Nat.{ℕ, _≤_}
+use mathlib.Core.Bool.{Bool}
 use mathlib.Core.Path.{_≡_, _∙_, ap, sym}
 use denote.Ref.{now}
-use Rattle.netlist.specs.Netlist.{netOf}
-use Rattle.gates.specs.Kind.{controlling, ruleOf}
-use Rattle.values.specs.Lists.{at}
-use Rattle.circuit.specs.Fault.{linesIn}
 use borrow.Author.Needs.{needs}
+use Rattle.values.specs.Lists.{at}
+use Rattle.gates.specs.Kind.{controlling, ruleOf}
+use Rattle.gates.specs.Value.{neg}
+use Rattle.gates.specs.declared.kind.Rule.{Rule}
+use Rattle.netlist.specs.Netlist.{netOf}
+use Rattle.circuit.specs.Fault.{linesIn}
+use Rattle.knowledge.proofs.WindowLaws.{against, conclusion-first, conclusion-none, conclusion-second, conclusion-stuck, tried}
 use Rattle.knowledge.proofs.relation.pin_conclusion.Statement.{statement}
 use Rattle.knowledge.proofs.relation.pin_conclusion.Tie as tie
-use Rattle.knowledge.proofs.relation.pin_conclusion.Reads as reads
-use Rattle.knowledge.proofs.relation.pin_conclusion.Lts as lts
-use Rattle.simulator.proofs.gate_assuming.Reads as gate-assuming-reads
-use Rattle.circuit.proofs.stuck_pin.Reads as stuck-pin-reads
-use Rattle.gates.proofs.controlling_value.Reads as controlling-value-reads
-use Rattle.gates.proofs.negation.Reads as negation-reads
-use Rattle.gates.proofs.rule_of.Reads as rule-of-reads
-use Rattle.gates.proofs.values_differ.Reads as values-differ-reads
-use Rattle.netlist.proofs.kind_of.Reads as kind-of-reads
+
+-- the value that is tried first, and whether a value at the pin would make the output another, as the definition has them
+abbrev first : tie.Start → ℕ
+first s = let a = s .args in tried (netOf (now (a .netlist))) (linesIn (a .circuit)) (at (now (a .values))) (a .node) (a .output) (a .pin)
+
+abbrev differs : tie.Start → ℕ → Bool
+differs s = let a = s .args in against (netOf (now (a .netlist))) (linesIn (a .circuit)) (at (now (a .values))) (a .node) (a .output) (a .pin)
+
+-- where both values are known
+abbrev start : tie.After-negation → tie.Start
+start e = e .before .before .before .before .before .before .before .before
+
+not-stuck : (e : tie.After-negation) → 2 ≤ linesIn (start e .args .circuit) .pin (start e .args .node) (start e .args .pin)
+not-stuck e = let e1 = e .before .before .before .before in rw (e1 .before .stuck-pin .ensures) at (e1 .if1 .left)
+
+first-is : (e : tie.After-negation) → e .before .controlling-value .result ≡ first (start e)
+unfolding netOf
+first-is e =
+    let rule = e .before .before in
+    e .before .controlling-value .ensures
+    ∙ ap (λ (r : Rule). controlling (r .gate)) (rule .rule-of .ensures ∙ ap ruleOf (rule .before .kind-of .ensures))
+
+second-is : (e : tie.After-negation) → e .negation .result ≡ neg (first (start e))
+second-is e = e .negation .ensures ∙ ap neg (first-is e)
+
+-- the two tests
+first-differs : (d : tie.After-values-differ) → differs (start (d .before .before)) (first (start (d .before .before))) ≡ d .values-differ .result
+unfolding netOf
+first-differs d = rw (← first-is (d .before .before)) (rw (← d .before .gate-assuming .ensures) (sym (d .values-differ .ensures)))
+
+abbrev known : tie.After-values-differ2 → tie.After-negation
+known d = d .before .before .before .before .before
+
+second-differs : (d : tie.After-values-differ2) → differs (start (known d)) (neg (first (start (known d)))) ≡ d .values-differ2 .result
+unfolding netOf
+second-differs d = rw (← second-is (known d)) (rw (← d .before .gate-assuming2 .ensures) (sym (d .values-differ2 .ensures)))
 
 stuck-pin-requires : tie.Need-stuck-pin-requires
 stuck-pin-requires c κs = search needs
 
 returns : tie.Need-returns
-returns c = let a = c .before .before .before .before .args in
-    let net = netOf (now (a .netlist)) in
-    let l = linesIn (a .circuit) in
-    let v = at (now (a .values)) in
-    conclusion-stuck net l v (a .node) (a .output) (a .pin) (rw (c .before .stuck-pin .ensures) at (c .if1 .taken))
+returns c = conclusion-stuck _ _ _ _ _ _ (rw (c .before .stuck-pin .ensures) at (c .if1 .taken))
 
 kind-of-requires : tie.Need-kind-of-requires
 kind-of-requires c κs = search needs
@@ -50,16 +78,7 @@ values-differ-requires : tie.Need-values-differ-requires
 values-differ-requires c κs = search needs
 
 returns-2 : tie.Need-returns-2
-unfolding netOf
-returns-2 c = let a = c .before .before .before .before .before .before .before .before .before .before .before .args in
-    let s = now (a .netlist) in
-    let net = netOf s in
-    let l = linesIn (a .circuit) in
-    let v = at (now (a .values)) in
-    let w : c .before .before .before .before .controlling-value .result ≡ tried net l v (a .node) (a .output) (a .pin) = c .before .before .before .before .controlling-value .ensures ∙ ap (λ (r : Rule). controlling (r .gate)) (c .before .before .before .before .before .rule-of .ensures ∙ ap ruleOf (c .before .before .before .before .before .before .kind-of .ensures)) in
-    let p = rw (c .before .before .before .before .before .before .before .before .stuck-pin .ensures) at (c .before .before .before .before .before .before .before .if1 .left) in
-    let e : against net l v (a .node) (a .output) (a .pin) (tried net l v (a .node) (a .output) (a .pin)) ≡ true = rw (← w) (rw (← c .before .before .gate-assuming .ensures) (sym (c .before .values-differ .ensures) ∙ c .if2 .taken)) in
-    c .before .before .before .negation .ensures ∙ ap neg w ∙ conclusion-first net l v (a .node) (a .output) (a .pin) p e
+returns-2 c = let e = c .before .before .before in second-is e ∙ conclusion-first _ _ _ _ _ _ (not-stuck e) (first-differs (c .before) ∙ c .if2 .taken)
 
 gate-assuming-requires-2 : tie.Need-gate-assuming-requires-2
 gate-assuming-requires-2 c κs = search needs
@@ -68,30 +87,16 @@ values-differ-requires-2 : tie.Need-values-differ-requires-2
 values-differ-requires-2 c κs = search needs
 
 returns-3 : tie.Need-returns-3
-unfolding netOf
-returns-3 c = let a = c .before .before .before .before .before .before .before .before .before .before .before .before .before .before .args in
-    let s = now (a .netlist) in
-    let net = netOf s in
-    let l = linesIn (a .circuit) in
-    let v = at (now (a .values)) in
-    let w : c .before .before .before .before .before .before .before .controlling-value .result ≡ tried net l v (a .node) (a .output) (a .pin) = c .before .before .before .before .before .before .before .controlling-value .ensures ∙ ap (λ (r : Rule). controlling (r .gate)) (c .before .before .before .before .before .before .before .before .rule-of .ensures ∙ ap ruleOf (c .before .before .before .before .before .before .before .before .before .kind-of .ensures)) in
-    let p = rw (c .before .before .before .before .before .before .before .before .before .before .before .stuck-pin .ensures) at (c .before .before .before .before .before .before .before .before .before .before .if1 .left) in
-    let e : against net l v (a .node) (a .output) (a .pin) (tried net l v (a .node) (a .output) (a .pin)) ≡ false = rw (← w) (rw (← c .before .before .before .before .before .gate-assuming .ensures) (sym (c .before .before .before .before .values-differ .ensures) ∙ c .before .before .before .if2 .left)) in
-    let f : against net l v (a .node) (a .output) (a .pin) (neg (tried net l v (a .node) (a .output) (a .pin))) ≡ true = rw (← w) (rw (← c .before .before .before .before .before .before .negation .ensures) (rw (← c .before .before .gate-assuming2 .ensures) (sym (c .before .values-differ2 .ensures) ∙ c .if3 .taken))) in
-    w ∙ conclusion-second net l v (a .node) (a .output) (a .pin) p e f
+returns-3 c =
+    let e2 = c .before .before .before in
+    let e = e2 .before .before .before in
+    first-is e ∙ conclusion-second _ _ _ _ _ _ (not-stuck e) (first-differs (e2 .before) ∙ e2 .if2 .left) (second-differs (c .before) ∙ c .if3 .taken)
 
 returns-4 : tie.Need-returns-4
-unfolding netOf
-returns-4 c = let a = c .before .before .before .before .before .before .before .before .before .before .before .before .before .before .args in
-    let s = now (a .netlist) in
-    let net = netOf s in
-    let l = linesIn (a .circuit) in
-    let v = at (now (a .values)) in
-    let w : c .before .before .before .before .before .before .before .controlling-value .result ≡ tried net l v (a .node) (a .output) (a .pin) = c .before .before .before .before .before .before .before .controlling-value .ensures ∙ ap (λ (r : Rule). controlling (r .gate)) (c .before .before .before .before .before .before .before .before .rule-of .ensures ∙ ap ruleOf (c .before .before .before .before .before .before .before .before .before .kind-of .ensures)) in
-    let p = rw (c .before .before .before .before .before .before .before .before .before .before .before .stuck-pin .ensures) at (c .before .before .before .before .before .before .before .before .before .before .if1 .left) in
-    let e : against net l v (a .node) (a .output) (a .pin) (tried net l v (a .node) (a .output) (a .pin)) ≡ false = rw (← w) (rw (← c .before .before .before .before .before .gate-assuming .ensures) (sym (c .before .before .before .before .values-differ .ensures) ∙ c .before .before .before .if2 .left)) in
-    let f : against net l v (a .node) (a .output) (a .pin) (neg (tried net l v (a .node) (a .output) (a .pin))) ≡ false = rw (← w) (rw (← c .before .before .before .before .before .before .negation .ensures) (rw (← c .before .before .gate-assuming2 .ensures) (sym (c .before .values-differ2 .ensures) ∙ c .if3 .left))) in
-    conclusion-none net l v (a .node) (a .output) (a .pin) p e f
+returns-4 c =
+    let e2 = c .before .before .before in
+    let e = e2 .before .before .before in
+    conclusion-none _ _ _ _ _ _ (not-stuck e) (first-differs (e2 .before) ∙ e2 .if2 .left) (second-differs (c .before) ∙ c .if3 .left)
 
 pub pin-conclusion-spec : {M : Type 1} → statement M
 pin-conclusion-spec =

@@ -8,10 +8,6 @@ use Rattle.netlist.proofs.NetlistLaws.{pins-at, pins-length}
 use borrow.Author.Needs.{needs}
 use Rattle.knowledge.proofs.relation.pin_source.Statement.{statement}
 use Rattle.knowledge.proofs.relation.pin_source.Tie as tie
-use Rattle.knowledge.proofs.relation.pin_source.Reads as reads
-use Rattle.knowledge.proofs.relation.pin_source.Lts as lts
-use Rattle.netlist.proofs.length_of.Reads as length-of-reads
-use Rattle.netlist.proofs.source_of.Reads as source-of-reads
 
 length-of-requires : tie.Need-length-of-requires
 length-of-requires c κs = search needs

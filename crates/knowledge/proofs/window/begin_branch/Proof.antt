@@ -3,14 +3,6 @@ use Rattle.netlist.specs.Netlist.{netOf}
 use borrow.Author.Needs.{needs}
 use Rattle.knowledge.proofs.window.begin_branch.Statement.{statement}
 use Rattle.knowledge.proofs.window.begin_branch.Tie as tie
-use Rattle.knowledge.proofs.window.begin_branch.Reads as reads
-use Rattle.knowledge.proofs.window.begin_branch.Lts as lts
-use Rattle.knowledge.proofs.window.hold_fault.Reads as hold-fault-reads
-use Rattle.knowledge.proofs.window.place_of.Reads as place-of-reads
-use Rattle.values.proofs.byte_at.Reads as byte-at-reads
-use Rattle.values.proofs.store.Reads as store-reads
-use Rattle.gates.proofs.values_differ.Reads as values-differ-reads
-use Rattle.netlist.proofs.node_count.Reads as node-count-reads
 
 node-count-requires : tie.Need-node-count-requires
 node-count-requires c κs = search needs

@@ -2,10 +2,6 @@ use Rattle.gates.proofs.ValueLaws.{known-low, unknown-high}
 use borrow.Author.Needs.{needs}
 use Rattle.knowledge.proofs.window.enter_value.Statement.{statement}
 use Rattle.knowledge.proofs.window.enter_value.Tie as tie
-use Rattle.knowledge.proofs.window.enter_value.Reads as reads
-use Rattle.knowledge.proofs.window.enter_value.Lts as lts
-use Rattle.values.proofs.byte_at.Reads as byte-at-reads
-use Rattle.values.proofs.store.Reads as store-reads
 
 byte-at-requires : tie.Need-byte-at-requires
 byte-at-requires c κs = search needs
@@ -23,7 +19,9 @@ same-length-2 : tie.Need-same-length-2
 same-length-2 c = search needs
 
 returns-2 : tie.Need-returns-2
-returns-2 c = rw (← c .before .before .before .before .before .byte-at .ensures, unknown-high _ (c .before .before .before .before .if1 .left), c .before .before .store .ensures)
+returns-2 c =
+    let e = c .before .before .before .before in
+    rw (← e .before .byte-at .ensures, unknown-high _ (e .if1 .left), c .before .before .store .ensures)
 
 pub enter-value-spec : {M : Type 1} → statement M
 enter-value-spec =

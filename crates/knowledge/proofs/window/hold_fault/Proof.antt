@@ -10,10 +10,6 @@ use native.Mathlib.Numerals.{add-one}
 use Prim.Native.Nat.{ℕ, _≤_, _-_, _+_, _*_}
 use Rattle.knowledge.proofs.window.hold_fault.Statement.{statement}
 use Rattle.knowledge.proofs.window.hold_fault.Tie as tie
-use Rattle.knowledge.proofs.window.hold_fault.Reads as reads
-use Rattle.knowledge.proofs.window.hold_fault.Lts as lts
-use Rattle.knowledge.proofs.window.hold_frame.Reads as hold-frame-reads
-use Rattle.values.proofs.fill.Reads as fill-reads
 
 abbrev Inv-loop : tie.InvT-loop
 Inv-loop n fault c known₀ frame₀ known frame = (frame ≤ c) × (known ≡ holdFrames n fault frame known₀)

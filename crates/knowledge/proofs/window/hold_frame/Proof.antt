@@ -2,11 +2,6 @@ use Rattle.circuit.specs.Fault.{linesIn}
 use borrow.Author.Needs.{needs}
 use Rattle.knowledge.proofs.window.hold_frame.Statement.{statement}
 use Rattle.knowledge.proofs.window.hold_frame.Tie as tie
-use Rattle.knowledge.proofs.window.hold_frame.Reads as reads
-use Rattle.knowledge.proofs.window.hold_frame.Lts as lts
-use Rattle.knowledge.proofs.window.place_of.Reads as place-of-reads
-use Rattle.values.proofs.store.Reads as store-reads
-use Rattle.circuit.proofs.stuck_node.Reads as stuck-node-reads
 
 stuck-node-requires : tie.Need-stuck-node-requires
 stuck-node-requires c κs = search needs

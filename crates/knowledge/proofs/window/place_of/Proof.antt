@@ -4,8 +4,6 @@ use native.Mathlib.Omega.{arith}
 use borrow.Author.Needs.{needs}
 use Rattle.knowledge.proofs.window.place_of.Statement.{statement}
 use Rattle.knowledge.proofs.window.place_of.Tie as tie
-use Rattle.knowledge.proofs.window.place_of.Reads as reads
-use Rattle.knowledge.proofs.window.place_of.Lts as lts
 
 mul-result : tie.Need-mul-result
 mul-result c = let a = c .args in

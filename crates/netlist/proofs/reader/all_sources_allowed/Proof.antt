@@ -9,9 +9,6 @@ use Rattle.values.specs.Lists.{every}
 use Rattle.values.proofs.ListLaws.{every-more, every-fails, every-done}
 use Rattle.netlist.proofs.reader.all_sources_allowed.Statement.{statement}
 use Rattle.netlist.proofs.reader.all_sources_allowed.Tie as tie
-use Rattle.netlist.proofs.reader.all_sources_allowed.Reads as reads
-use Rattle.netlist.proofs.reader.all_sources_allowed.Lts as lts
-use Rattle.netlist.proofs.reader.sources_allowed.Reads as sources-allowed-reads
 
 abbrev Inv-loop : tie.InvT-loop
 Inv-loop netlist n node₀ node = (node ≤ n) × (every (sourcesAllowed netlist) node ≡ true)
@@ -27,8 +24,11 @@ sources-allowed-requires : tie.Need-sources-allowed-requires Inv-loop μ-loop
 sources-allowed-requires c κs = c .before .before .before .pre
 
 returns : tie.Need-returns Inv-loop μ-loop
-returns c = let s = now (c .before .before .before .before .before .args .netlist) in
-    sym (every-fails (sourcesAllowed s) _ (c .before .before .before .loop .node) (c .before .before .loop-test .taken) (sym (c .before .sources-allowed .ensures) ∙ not-true _ (c .if1 .taken)))
+returns c =
+    let s = now (c .before .before .before .before .before .args .netlist) in
+    let l = c .before .before .before .loop in
+    let fails = sym (c .before .sources-allowed .ensures) ∙ not-true _ (c .if1 .taken) in
+    sym (every-fails (sourcesAllowed s) _ (l .node) (c .before .before .loop-test .taken) fails)
 
 add-node : tie.Need-add-node Inv-loop μ-loop
 add-node c = omega arith
@@ -39,7 +39,8 @@ loop-less c = omega arith
 loop-again : tie.Need-loop-again Inv-loop μ-loop
 loop-again c = let s = now (c .before .before .before .before .before .args .netlist) in
     let l = c .before .before .before .loop in
-    (omega arith, every-more (sourcesAllowed s) (l .node) (l .inv .1) (sym (c .before .sources-allowed .ensures) ∙ not-false _ (c .if1 .left)))
+    let passes = sym (c .before .sources-allowed .ensures) ∙ not-false _ (c .if1 .left) in
+    (omega arith, every-more (sourcesAllowed s) (l .node) (l .inv .1) passes)
 
 returns-2 : tie.Need-returns-2 Inv-loop μ-loop
 returns-2 c = let l = c .before .loop in

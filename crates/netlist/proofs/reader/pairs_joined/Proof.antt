@@ -5,16 +5,12 @@ use borrow.Author.Tests.{eq-eqb, ne-eqb}
 use Rattle.netlist.specs.Netlist.{pairJoined, pairStart}
 use denote.Ref.{now}
 use Prim.Native.Nat.{_≤_, _-_}
-use mathlib.Core.Bool.{true}
+use mathlib.Core.Bool.{false, true}
 use native.Mathlib.Omega.{arith}
 use borrow.Author.Needs.{needs}
 use Rattle.values.specs.Lists.{every}
 use Rattle.netlist.proofs.reader.pairs_joined.Statement.{statement}
 use Rattle.netlist.proofs.reader.pairs_joined.Tie as tie
-use Rattle.netlist.proofs.reader.pairs_joined.Reads as reads
-use Rattle.netlist.proofs.reader.pairs_joined.Lts as lts
-use Rattle.netlist.proofs.reader.length_of.Reads as length-of-reads
-use Rattle.netlist.proofs.reader.offset_of.Reads as offset-of-reads
 
 abbrev Inv-loop : tie.InvT-loop
 Inv-loop netlist n p start₀ node₀ start node = (node ≤ n) × (every (pairJoined netlist) node ≡ true) × (start ≡ pairStart netlist node)
@@ -34,9 +30,11 @@ cast-offset c = search needs
 
 returns : tie.Need-returns Inv-loop μ-loop
 unfolding pairJoined
-returns c = let s = now (c .before .before .before .before .before .args .netlist) in
+returns c =
+    let s = now (c .before .before .before .before .before .args .netlist) in
     let l = c .before .before .before .loop in
-    rw (every-fails (pairJoined s) _ (l .node) (c .before .before .loop-test .taken) (rw (← c .before .offset-of .ensures, ← (l .inv .2)) (ne-eqb _ _ (c .if1 .taken))))
+    let apart : pairJoined s (l .node) ≡ false = rw (← c .before .offset-of .ensures, ← (l .inv .2)) (ne-eqb _ _ (c .if1 .taken)) in
+    rw (every-fails (pairJoined s) _ (l .node) (c .before .before .loop-test .taken) apart)
 
 length-of-requires : tie.Need-length-of-requires Inv-loop μ-loop
 length-of-requires c κs = search needs
@@ -55,9 +53,12 @@ loop-less c = omega arith
 
 loop-again : tie.Need-loop-again Inv-loop μ-loop
 unfolding pairJoined pairStart
-loop-again c = let s = now (c .before .before .before .before .before .before .args .netlist) in
+loop-again c =
+    let o = c .before .before .offset-of .ensures in
     let l = c .before .before .before .before .loop in
-    (omega arith, every-more (pairJoined s) (l .node) (l .inv .1) (rw (← c .before .before .offset-of .ensures, ← (l .inv .2)) (eq-eqb _ _ (c .before .if1 .left))), rw (add-one, c .before .before .offset-of .ensures, c .length-of .ensures))
+    let s = now (c .before .before .before .before .before .before .args .netlist) in
+    let joined : pairJoined s (l .node) ≡ true = rw (← o, ← (l .inv .2)) (eq-eqb _ _ (c .before .if1 .left)) in
+    (omega arith, every-more (pairJoined s) (l .node) (l .inv .1) joined, rw (add-one, o, c .length-of .ensures))
 
 returns-2 : tie.Need-returns-2 Inv-loop μ-loop
 returns-2 c = let a = c .before .before .before .args in

@@ -10,10 +10,6 @@ use Rattle.values.specs.Lists.{every}
 use Rattle.values.proofs.ListLaws.{every-more, every-fails, every-done}
 use Rattle.netlist.proofs.reader.sources_allowed.Statement.{statement}
 use Rattle.netlist.proofs.reader.sources_allowed.Tie as tie
-use Rattle.netlist.proofs.reader.sources_allowed.Reads as reads
-use Rattle.netlist.proofs.reader.sources_allowed.Lts as lts
-use Rattle.netlist.proofs.reader.length_of.Reads as length-of-reads
-use Rattle.netlist.proofs.reader.source_allowed.Reads as source-allowed-reads
 
 abbrev Inv-loop : tie.InvT-loop
 Inv-loop netlist n node count pin₀ pin = (pin ≤ count) × (every (sourceAllowed netlist node) pin ≡ true)
@@ -33,8 +29,12 @@ source-allowed-requires c κs = c .before .before .before .before .pre
 
 returns : tie.Need-returns Inv-loop μ-loop
 unfolding sourcesAllowed
-returns c = let a = c .before .before .before .before .before .before .args in
-    rw (← c .before .before .before .before .length-of .ensures) (sym (every-fails (sourceAllowed (now (a .netlist)) (a .node)) _ (c .before .before .before .loop .pin) (c .before .before .loop-test .taken) (sym (c .before .source-allowed .ensures) ∙ not-true _ (c .if1 .taken))))
+returns c =
+    let a = c .before .before .before .before .before .before .args in
+    let l = c .before .before .before .loop in
+    let fails = sym (c .before .source-allowed .ensures) ∙ not-true _ (c .if1 .taken) in
+    rw (← c .before .before .before .before .length-of .ensures)
+    (sym (every-fails (sourceAllowed (now (a .netlist)) (a .node)) _ (l .pin) (c .before .before .loop-test .taken) fails))
 
 add-pin : tie.Need-add-pin Inv-loop μ-loop
 add-pin c = omega arith

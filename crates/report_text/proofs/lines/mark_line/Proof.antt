@@ -1,20 +1,50 @@
+-- The line is six fields, each put straight behind the one before. A field that was put is a run of bytes (`run-put`), and runs that
+-- follow each other are one (`runs`), which is the line. No field is longer than `fieldLength`, so they fit a line (`fields-short`).
 use Rattle.fault_list.proofs.TextLaws.{run-put, runs}
+use Rattle.fault_list.specs.Inner.Put.{putAt}
 use Rattle.fault_list.specs.Text.{field, lineFeed, space}
-use Rattle.report_text.specs.Lines.{markLine}
+use Rattle.report_text.specs.Lines.{lineLength, markLine}
 use Rattle.circuit.specs.Fault.{siteByte}
 use Rattle.certificate.specs.Certificate.{splitFrame, splitNode}
+use Rattle.certificate.specs.declared.layout.Head.{Head}
 use native.Mathlib.Omega.{arith}
-use mathlib.Core.Path.{_∙_, _≡_, refl}
-use Prim.Native.Nat.{_+_}
+use mathlib.Core.Path.{_∙_, _≡_, ap, refl}
+use Prim.Native.Nat.{ℕ, _+_, _≤_}
 use denote.Ref.{now}
 use borrow.Author.Needs.{needs}
 use Rattle.report_text.proofs.lines.mark_line.Statement.{statement}
 use Rattle.report_text.proofs.lines.mark_line.Tie as tie
-use Rattle.report_text.proofs.lines.mark_line.Reads as reads
-use Rattle.report_text.proofs.lines.mark_line.Lts as lts
-use Rattle.certificate.proofs.head_of.Reads as head-of-reads
-use Rattle.circuit.proofs.site_byte.Reads as site-byte-reads
-use Rattle.fault_list.proofs.put_field.Reads as put-field-reads
+
+-- behind each of the first five fields, seen from behind the sixth
+abbrev field-5 : tie.After-put-field6 → tie.After-put-field5
+field-5 c = c .before .before .before .before .before
+
+abbrev field-4 : tie.After-put-field6 → tie.After-put-field4
+field-4 c = field-5 c .before .before .before .before .before
+
+abbrev field-3 : tie.After-put-field6 → tie.After-put-field3
+field-3 c = field-4 c .before .before .before .before
+
+abbrev field-2 : tie.After-put-field6 → tie.After-put-field2
+field-2 c = field-3 c .before .before .before .before .before
+
+abbrev field-1 : tie.After-put-field6 → tie.After-put-field
+field-1 c = field-2 c .before .before .before .before .before
+
+-- a line holds six fields
+fields-short : (c : tie.After-put-field6) →
+    field-1 c .put-field .result + field-2 c .put-field2 .result + field-3 c .put-field3 .result
+    + field-4 c .put-field4 .result + field-5 c .put-field5 .result + c .put-field6 .result ≤ lineLength
+fields-short c =
+    omega (
+      arith,
+      field-1 c .put-field .ensures .1,
+      field-2 c .put-field2 .ensures .1,
+      field-3 c .put-field3 .ensures .1,
+      field-4 c .put-field4 .ensures .1,
+      field-5 c .put-field5 .ensures .1,
+      c .put-field6 .ensures .1,
+    )
 
 head-of-requires : tie.Need-head-of-requires
 head-of-requires c κs = search needs
@@ -68,60 +98,47 @@ put-field-requires-6 : tie.Need-put-field-requires-6
 put-field-requires-6 c κs = search needs
 
 add-result : tie.Need-add-result
-add-result c =
-    let c₆ = c .before .before in
-    let c₅ = c₆ .before .before .before .before .before in
-    let c₄ = c₅ .before .before .before .before .before in
-    let c₃ = c₄ .before .before .before .before in
-    let c₂ = c₃ .before .before .before .before .before in
-    let c₁ = c₂ .before .before .before .before .before in
-    omega (arith, c₁ .put-field .ensures .1, c₂ .put-field2 .ensures .1, c₃ .put-field3 .ensures .1, c₄ .put-field4 .ensures .1, c₅ .put-field5 .ensures .1)
+add-result c = omega (arith, fields-short (c .before .before))
 
 same-length : tie.Need-same-length
 same-length c =
-    let c₆ = c .before .before in
-    let c₅ = c₆ .before .before .before .before .before in
-    let c₄ = c₅ .before .before .before .before .before in
-    let c₃ = c₄ .before .before .before .before in
-    let c₂ = c₃ .before .before .before .before .before in
-    let c₁ = c₂ .before .before .before .before .before in
-    c₆ .put-field6 .kept .0
-    ∙ c₅ .put-field5 .kept .0
-    ∙ c₄ .put-field4 .kept .0
-    ∙ c₃ .put-field3 .kept .0
-    ∙ c₂ .put-field2 .kept .0
-    ∙ c₁ .put-field .kept .0
+    let t = c .before .before in
+    t .put-field6 .kept .0
+    ∙ field-5 t .put-field5 .kept .0
+    ∙ field-4 t .put-field4 .kept .0
+    ∙ field-3 t .put-field3 .kept .0
+    ∙ field-2 t .put-field2 .kept .0
+    ∙ field-1 t .put-field .kept .0
 
 returns : tie.Need-returns
 unfolding markLine
 returns c =
-    let c₆ = c .before .before in
-    let c₅ = c₆ .before .before .before .before .before in
-    let c₄ = c₅ .before .before .before .before .before in
-    let c₃ = c₄ .before .before .before .before in
-    let c₂ = c₃ .before .before .before .before .before in
-    let c₁ = c₂ .before .before .before .before .before in
-    let h = c₁ .before .before .before in
-    let a = h .before .before .before .args in
-    let f₁ = c₁ .put-field in
-    let f₂ = c₂ .put-field2 in
-    let f₃ = c₃ .put-field3 in
-    let f₄ = c₄ .put-field4 in
-    let f₅ = c₅ .put-field5 in
-    let f₆ = c₆ .put-field6 in
+    let t = c .before .before in
+    let head = field-1 t .before .before .before in
+    let a = head .before .before .before .args in
     let bs = now (a .certificate) in
-    let start : f₁ .result ≡ 0 + f₁ .result = omega arith in
+    let f₁ = field-1 t .put-field in
+    let f₂ = field-2 t .put-field2 in
+    let f₃ = field-3 t .put-field3 in
+    let f₄ = field-4 t .put-field4 in
+    let f₅ = field-5 t .put-field5 in
+    let f₆ = t .put-field6 in
     let e₂ = f₁ .result + f₂ .result in
     let e₃ = e₂ + f₃ .result in
     let e₄ = e₃ + f₄ .result in
+    let e₅ = e₄ + f₅ .result in
+    let start : f₁ .result ≡ 0 + f₁ .result = omega arith in
+    let site = ap (λ (x : ℕ). putAt (f₁ .last .0) (f₁ .result) (field x space)) (field-2 t .before .site-byte .ensures) in
+    let node = ap (λ (h : Head). putAt (f₄ .last .0) e₄ (field (h .node) space)) (head .head-of .ensures) in
+    let frame = ap (λ (h : Head). putAt (f₅ .last .0) e₅ (field (h .frame) lineFeed)) (head .head-of .ensures) in
     let r₁ = run-put (now (a .out)) 0 (field (a .fault .node) space) (f₁ .ensures .0) start in
-    let r₂ = run-put (f₁ .last .0) (f₁ .result) (field (siteByte (a .fault .site)) space) (f₂ .ensures .0 ∙ rw (c₂ .before .site-byte .ensures)) refl in
+    let r₂ = run-put (f₁ .last .0) (f₁ .result) (field (siteByte (a .fault .site)) space) (f₂ .ensures .0 ∙ site) refl in
     let r₃ = run-put (f₂ .last .0) e₂ (field (a .fault .stuck) space) (f₃ .ensures .0) refl in
     let r₄ = run-put (f₃ .last .0) e₃ (field (a .c) space) (f₄ .ensures .0) refl in
-    let r₅ = run-put (f₄ .last .0) e₄ (field (splitNode bs) space) (f₅ .ensures .0 ∙ rw (h .head-of .ensures)) refl in
-    let r₆ = run-put (f₅ .last .0) (e₄ + f₅ .result) (field (splitFrame bs) lineFeed) (f₆ .ensures .0 ∙ rw (h .head-of .ensures)) refl in
+    let r₅ = run-put (f₄ .last .0) e₄ (field (splitNode bs) space) (f₅ .ensures .0 ∙ node) refl in
+    let r₆ = run-put (f₅ .last .0) e₅ (field (splitFrame bs) lineFeed) (f₆ .ensures .0 ∙ frame) refl in
     let line = runs r₁ (runs r₂ (runs r₃ (runs r₄ (runs r₅ r₆)))) in
-    ((omega (arith, line .ends), omega (arith, f₁ .ensures .1, f₂ .ensures .1, f₃ .ensures .1, f₄ .ensures .1, f₅ .ensures .1, f₆ .ensures .1)), line .holds)
+    ((omega (arith, line .ends), fields-short t), line .holds)
 
 pub mark-line-spec : {M : Type 1} → statement M
 mark-line-spec =

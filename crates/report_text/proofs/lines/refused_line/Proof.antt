@@ -10,10 +10,6 @@ use denote.Ref.{now}
 use borrow.Author.Needs.{needs}
 use Rattle.report_text.proofs.lines.refused_line.Statement.{statement}
 use Rattle.report_text.proofs.lines.refused_line.Tie as tie
-use Rattle.report_text.proofs.lines.refused_line.Reads as reads
-use Rattle.report_text.proofs.lines.refused_line.Lts as lts
-use Rattle.fault_list.proofs.put_field.Reads as put-field-reads
-use Rattle.fault_list.proofs.put_text.Reads as put-text-reads
 
 slice-aggregate-put-text : tie.Need-slice-aggregate-put-text
 slice-aggregate-put-text c = search needs

@@ -10,10 +10,6 @@ use denote.Ref.{now}
 use borrow.Author.Needs.{needs}
 use Rattle.report_text.proofs.lines.total_line.Statement.{statement}
 use Rattle.report_text.proofs.lines.total_line.Tie as tie
-use Rattle.report_text.proofs.lines.total_line.Reads as reads
-use Rattle.report_text.proofs.lines.total_line.Lts as lts
-use Rattle.fault_list.proofs.put_field.Reads as put-field-reads
-use Rattle.fault_list.proofs.put_text.Reads as put-text-reads
 
 put-field-requires : tie.Need-put-field-requires
 put-field-requires c κs = search needs

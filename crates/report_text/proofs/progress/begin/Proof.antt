@@ -4,10 +4,6 @@ use denote.Ref.{now}
 use borrow.Author.Needs.{needs}
 use Rattle.report_text.proofs.progress.begin.Statement.{statement}
 use Rattle.report_text.proofs.progress.begin.Tie as tie
-use Rattle.report_text.proofs.progress.begin.Reads as reads
-use Rattle.report_text.proofs.progress.begin.Lts as lts
-use Rattle.values.proofs.tail.Reads as tail-reads
-use Rattle.fault_list.proofs.first_of.Reads as first-of-reads
 
 tail-requires : tie.Need-tail-requires
 tail-requires c κs = search needs

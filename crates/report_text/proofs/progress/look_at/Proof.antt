@@ -1,22 +1,46 @@
-use Rattle.report_text.proofs.TurnLaws.{answered-exists, answered-sound, fault-turn, said, turns-fall}
+-- What the finder has answered is `Answers`, made by `answers` in each of the three arms, from which answer was told there. `fault-turn`
+-- says what the turn makes of it, so each return rewrites the progress and the line that was written to that. Where the finder
+-- refuses nothing, the netlist is sound and the fault exists, which `looked_at` asks for, and by `turns-fall` fewer turns are left.
+use Prim.Native.Nat.{ℕ}
+use mathlib.Core.List.{List}
+use Rattle.report_text.proofs.TurnLaws.{Said, answered-exists, answered-sound, fault-turn, said, turns-fall}
+use Rattle.report_text.specs.Report.{netlistIn}
 use Rattle.report_text.specs.Turns.{madeFor}
 use Rattle.finder.specs.declared.Finding.{Finding}
 use native.Mathlib.Omega.{arith}
-use mathlib.Core.Path.{refl}
+use mathlib.Core.Path.{_≡_, refl}
 use denote.Ref.{now}
 use borrow.Author.Needs.{needs}
 use Rattle.report_text.proofs.progress.look_at.Statement.{statement}
 use Rattle.report_text.proofs.progress.look_at.Tie as tie
-use Rattle.report_text.proofs.progress.look_at.Reads as reads
-use Rattle.report_text.proofs.progress.look_at.Lts as lts
-use Rattle.values.proofs.byte_at.Reads as byte-at-reads
-use Rattle.values.proofs.tail.Reads as tail-reads
-use Rattle.finder.proofs.find.Reads as find-reads
-use Rattle.report_text.proofs.lines.mark_line.Reads as mark-line-reads
-use Rattle.report_text.proofs.lines.refused_line.Reads as refused-line-reads
-use Rattle.report_text.proofs.progress.ended.Reads as ended-reads
-use Rattle.report_text.proofs.progress.looked_at.Reads as looked-at-reads
-use Rattle.std.proofs.num.wrapping_add_u32.Reads as wrapping-add-u32-reads
+
+-- the function's entry, seen from behind the finder's call
+abbrev entry : tie.After-find → tie.Start
+entry c = c .before .before .before .before .before .before .before .before .before .before .before .before
+
+abbrev bytes : tie.After-find → List ℕ
+bytes c = now (entry c .args .input)
+
+-- the netlist that the finder was given is that of the input
+abbrev netlist : tie.After-find → List ℕ
+netlist c = now (c .before .before .before .before .before .before .tail .result)
+
+netlist-is : (c : tie.After-find) → netlist c ≡ netlistIn (bytes c)
+netlist-is c = c .before .before .before .before .before .before .tail .ensures
+
+-- the finder has answered s
+abbrev Answers : tie.After-find → Finding → Type 0
+Answers c s =
+    let a = entry c .args in
+    let left = c .find .last .1 .1 .1 .1 in
+    Said (bytes c) (a .fault) (now (a .first)) (now (a .second)) (now (a .certificate)) (left .0) (left .1 .0) (left .1 .1 .0) s
+
+answers : (c : tie.After-find) {s : Finding} → c .find .result ≡ s → Answers c s
+answers c {s} e =
+    let a = entry c .args in
+    let given = c .before .before .before .before in
+    said (bytes c) (a .fault) (now (a .first)) (now (a .second)) (now (a .certificate)) s (netlist-is c) (given .before .byte-at .ensures) (given .byte-at2 .ensures)
+    e (c .find .ensures .0)
 
 tail-requires : tie.Need-tail-requires
 tail-requires c κs = search needs
@@ -42,29 +66,18 @@ wrapping-add-u32-requires c κs = search needs
 looked-at-requires : tie.Need-looked-at-requires
 looked-at-requires c κs =
     let told = c .before .before .before .before .before .before .before in
-    let at-find = told .before .before .before .before .before .before .before .before in
-    let at-f = at-find .before .before .before .before in
-    let t = at-f .before .before .tail in
-    let a = at-f .before .before .before .before .before .before .before .before .args in
-    let x = told .finding .given in
-    let answer = said (now (a .input)) (a .fault) (now (a .first)) (now (a .second)) (now (a .certificate)) (Finding.Found (x .0 .0) (x .0 .1 .0) (x .0 .1 .1 .0)) (t .ensures)
-    (at-f .before .byte-at .ensures) (at-f .byte-at2 .ensures) (x .1) (at-find .find .ensures .0) in
-    rw (t .ensures) (answered-sound answer refl, answered-exists answer refl)
+    let asked = told .before .before .before .before .before .before .before .before in
+    let answer = answers asked (told .finding .given .1) in
+    rw (netlist-is asked) (answered-sound answer refl, answered-exists answer refl)
 
 enum-told : tie.Need-enum-told
 enum-told c = search needs
 
 looked-at-requires-2 : tie.Need-looked-at-requires-2
 looked-at-requires-2 c κs =
-    let told = c in
-    let at-find = told .before .before .before .before .before .before .before .before in
-    let at-f = at-find .before .before .before .before in
-    let t = at-f .before .before .tail in
-    let a = at-f .before .before .before .before .before .before .before .before .args in
-    let x = told .enum-told .given in
-    let answer = said (now (a .input)) (a .fault) (now (a .first)) (now (a .second)) (now (a .certificate)) Finding.None (t .ensures)
-    (at-f .before .byte-at .ensures) (at-f .byte-at2 .ensures) (x .1) (at-find .find .ensures .0) in
-    rw (t .ensures) (answered-sound answer refl, answered-exists answer refl)
+    let asked = c .before .before .before .before .before .before .before .before in
+    let answer = answers asked (c .enum-told .given .1) in
+    rw (netlist-is asked) (answered-sound answer refl, answered-exists answer refl)
 
 enum-known-finding-2 : tie.Need-enum-known-finding-2
 enum-known-finding-2 c = search needs
@@ -91,17 +104,13 @@ returns : tie.Need-returns
 unfolding madeFor
 returns c =
     let told = c .before .before .before .before .before .before .before .before in
-    let at-find = told .before .before .before .before .before .before .before .before in
-    let at-f = at-find .before .before .before .before in
-    let t = at-f .before .before .tail in
-    let a = at-f .before .before .before .before .before .before .before .before .args in
-    let x = told .finding .given in
-    let answer = said (now (a .input)) (a .fault) (now (a .first)) (now (a .second)) (now (a .certificate)) (Finding.Found (x .0 .0) (x .0 .1 .0) (x .0 .1 .1 .0)) (t .ensures)
-    (at-f .before .byte-at .ensures) (at-f .byte-at2 .ensures) (x .1) (at-find .find .ensures .0) in
+    let asked = told .before .before .before .before .before .before .before .before in
+    let answer = answers asked (told .finding .given .1) in
+    let a = entry asked .args in
     let line = c .before .before .before .before .mark-line in
     let here = c .looked-at .ensures in (
-      rw (here, t .ensures, c .before .wrapping-add-u32 .ensures, line .ensures .0 .0, line .ensures .1) (fault-turn answer (a .marks) (a .faults) (now (a .line))),
-      (rw here (line .ensures .0 .1), rw (here, t .ensures) (turns-fall (now (a .input)) (a .fault) (answered-exists answer refl))),
+      rw (here, netlist-is asked, c .before .wrapping-add-u32 .ensures, line .ensures .0 .0, line .ensures .1) (fault-turn answer (a .marks) (a .faults) (now (a .line))),
+      (rw here (line .ensures .0 .1), rw (here, netlist-is asked) (turns-fall (bytes asked) (a .fault) (answered-exists answer refl))),
     )
 
 same-length-5 : tie.Need-same-length-5
@@ -117,16 +126,12 @@ returns-2 : tie.Need-returns-2
 unfolding madeFor
 returns-2 c =
     let told = c .before in
-    let at-find = told .before .before .before .before .before .before .before .before in
-    let at-f = at-find .before .before .before .before in
-    let t = at-f .before .before .tail in
-    let a = at-f .before .before .before .before .before .before .before .before .args in
-    let x = told .enum-told .given in
-    let answer = said (now (a .input)) (a .fault) (now (a .first)) (now (a .second)) (now (a .certificate)) Finding.None (t .ensures)
-    (at-f .before .byte-at .ensures) (at-f .byte-at2 .ensures) (x .1) (at-find .find .ensures .0) in
+    let asked = told .before .before .before .before .before .before .before .before in
+    let answer = answers asked (told .enum-told .given .1) in
+    let a = entry asked .args in
     let here = c .looked-at2 .ensures in (
-      rw (here, t .ensures) (fault-turn answer (a .marks) (a .faults) (now (a .line))),
-      (rw here (omega arith), rw (here, t .ensures) (turns-fall (now (a .input)) (a .fault) (answered-exists answer refl))),
+      rw (here, netlist-is asked) (fault-turn answer (a .marks) (a .faults) (now (a .line))),
+      (rw here (omega arith), rw (here, netlist-is asked) (turns-fall (bytes asked) (a .fault) (answered-exists answer refl))),
     )
 
 same-length-8 : tie.Need-same-length-8
@@ -145,13 +150,9 @@ returns-3 : tie.Need-returns-3
 unfolding madeFor
 returns-3 c =
     let told = c .before .before .before .before .before .before in
-    let at-find = told .before .before .before .before .before .before .before .before in
-    let at-f = at-find .before .before .before .before in
-    let t = at-f .before .before .tail in
-    let a = at-f .before .before .before .before .before .before .before .before .args in
-    let x = told .finding2 .given in
-    let answer = said (now (a .input)) (a .fault) (now (a .first)) (now (a .second)) (now (a .certificate)) (Finding.Refused (x .0 .0)) (t .ensures)
-    (at-f .before .byte-at .ensures) (at-f .byte-at2 .ensures) (x .1) (at-find .find .ensures .0) in
+    let asked = told .before .before .before .before .before .before .before .before in
+    let answer = answers asked (told .finding2 .given .1) in
+    let a = entry asked .args in
     let line = c .before .before .before .refused-line in
     let here = c .ended .ensures in (
       rw (here, line .ensures .0 .0, line .ensures .1) (fault-turn answer (a .marks) (a .faults) (now (a .line))),

@@ -4,11 +4,6 @@ use Rattle.fault_list.proofs.WalkLaws.{next-sound}
 use borrow.Author.Needs.{needs}
 use Rattle.report_text.proofs.progress.looked_at.Statement.{statement}
 use Rattle.report_text.proofs.progress.looked_at.Tie as tie
-use Rattle.report_text.proofs.progress.looked_at.Reads as reads
-use Rattle.report_text.proofs.progress.looked_at.Lts as lts
-use Rattle.fault_list.proofs.fault_after.Reads as fault-after-reads
-use Rattle.report_text.proofs.progress.stage_at.Reads as stage-at-reads
-use Rattle.std.proofs.num.wrapping_add_u32.Reads as wrapping-add-u32-reads
 
 fault-after-requires : tie.Need-fault-after-requires
 fault-after-requires c κs = search needs

@@ -3,11 +3,6 @@ use native.Mathlib.Omega.{arith}
 use borrow.Author.Needs.{needs}
 use Rattle.report_text.proofs.progress.next_line.Statement.{statement}
 use Rattle.report_text.proofs.progress.next_line.Tie as tie
-use Rattle.report_text.proofs.progress.next_line.Reads as reads
-use Rattle.report_text.proofs.progress.next_line.Lts as lts
-use Rattle.report_text.proofs.lines.total_line.Reads as total-line-reads
-use Rattle.report_text.proofs.progress.ended.Reads as ended-reads
-use Rattle.report_text.proofs.progress.look_at.Reads as look-at-reads
 
 enum-known-stage : tie.Need-enum-known-stage
 enum-known-stage c = search needs

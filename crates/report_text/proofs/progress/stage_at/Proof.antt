@@ -4,9 +4,6 @@ use borrow.Author.Tests.{lt-ltb, le-ltb}
 use borrow.Author.Needs.{needs}
 use Rattle.report_text.proofs.progress.stage_at.Statement.{statement}
 use Rattle.report_text.proofs.progress.stage_at.Tie as tie
-use Rattle.report_text.proofs.progress.stage_at.Reads as reads
-use Rattle.report_text.proofs.progress.stage_at.Lts as lts
-use Rattle.netlist.proofs.node_count.Reads as node-count-reads
 
 node-count-requires : tie.Need-node-count-requires
 node-count-requires c κs = search needs

@@ -1,5 +1,8 @@
+-- Where the split is noted for its c, what is noted stays open by the contract, and so the split does. Else `decide` answers, in
+-- parts of the two work slices that have the size of the split's window (`known-part`, `spare-part`).
 use Prim.Native.Nat.{ℕ, _+_, _*_, _/_}
-use mathlib.Core.Path.{_∙_, ap, sym}
+use mathlib.Core.Path.{_∙_, _≡_, ap, sym}
+use lib.ListN.{length, take}
 use lib.Seq.{length-take-le}
 use denote.Ref.{now}
 use native.Mathlib.Omega.{arith}
@@ -10,6 +13,16 @@ use Rattle.search.specs.Inner.Notes.{NotedStayOpen}
 use borrow.Author.Needs.{needs}
 use Rattle.search.proofs.branch.closes.Statement.{statement}
 use Rattle.search.proofs.branch.closes.Tie as tie
+
+-- both slices hold the split's window, and the part of each that is lent has its size
+abbrev size : tie.Start → ℕ
+size c = c .args .n * (c .args .split .c + c .args .f + 1)
+
+known-part : (c : tie.Start) → length (take (size c) (now (c .args .known))) ≡ size c
+known-part c = length-take-le (size c) (now (c .args .known)) (c .pre .1 .1 .1 .0 .0)
+
+spare-part : (c : tie.Start) → length (take (size c) (now (c .args .spare))) ≡ size c
+spare-part c = length-take-le (size c) (now (c .args .spare)) (c .pre .1 .1 .1 .0 .1)
 
 cast-place-of : tie.Need-cast-place-of
 cast-place-of c = search needs
@@ -28,13 +41,16 @@ same-length c = search needs
 
 returns : tie.Need-returns
 unfolding NotedStayOpen
-returns c = let a = c .before .before .before .before .before .before .before .before .before .before .before .args in
+returns c =
+    let start = c .before .before .before .before .before .before .before .before .before .before .before in
+    let a = start .args in
+    let p = start .pre in
     let s = now (a .netlist) in
-    let p = c .before .before .before .before .before .before .before .before .before .before .before .pre in
-    let size = sound-size s (a .n) (pinCount s) (p .0) in
-    let place = c .before .before .before .place-of .ensures ∙ ap (λ (x : ℕ). a .split .frame * x + a .split .node) size in
-    let e = ap (λ (x : ℕ). x / 4) (ap (at (now (a .noted))) (sym place) ∙ sym (c .before .byte-at .ensures)) ∙ c .if1 .taken in
-    (sym (p .1 .1 .1 .1 (a .split) (p .1 .1 .0 .1) (omega (arith, size, p .1 .1 .0 .2)) e), p .1 .1 .1 .1)
+    let nodes = sound-size s (a .n) (pinCount s) (p .0) in
+    let place = c .before .before .before .place-of .ensures ∙ ap (λ (x : ℕ). a .split .frame * x + a .split .node) nodes in
+    let byte = ap (at (now (a .noted))) (sym place) ∙ sym (c .before .byte-at .ensures) in
+    let noted = ap (λ (x : ℕ). x / 4) byte ∙ c .if1 .taken in
+    (sym (p .1 .1 .1 .1 (a .split) (p .1 .1 .0 .1) (omega (arith, nodes, p .1 .1 .0 .2)) noted), p .1 .1 .1 .1)
 
 cast-size : tie.Need-cast-size
 cast-size c = search needs
@@ -52,38 +68,19 @@ slice-relend-prefix-decide : tie.Need-slice-relend-prefix-decide
 slice-relend-prefix-decide c = search needs
 
 slice-aggregate-decide : tie.Need-slice-aggregate-decide
-slice-aggregate-decide c =
-    let c12 = c .before .before .before .before .before .before .before .before .before .before .before .before in
-    sym (length-take-le (c12 .args .n * (c12 .args .split .c + c12 .args .f + 1)) (now (c12 .args .known)) (c12 .pre .1 .1 .1 .0 .0))
+slice-aggregate-decide c = sym (known-part (c .before .before .before .before .before .before .before .before .before .before .before .before))
 
 slice-relend-prefix-decide-2 : tie.Need-slice-relend-prefix-decide-2
 slice-relend-prefix-decide-2 c = search needs
 
 slice-aggregate-decide-2 : tie.Need-slice-aggregate-decide-2
-slice-aggregate-decide-2 c =
-    let c13 = c .before .before .before .before .before .before .before .before .before .before .before .before .before in
-    sym (length-take-le (c13 .args .n * (c13 .args .split .c + c13 .args .f + 1)) (now (c13 .args .marks)) (c13 .pre .1 .1 .1 .0 .1))
+slice-aggregate-decide-2 c = sym (spare-part (c .before .before .before .before .before .before .before .before .before .before .before .before .before))
 
 decide-requires : tie.Need-decide-requires
 decide-requires c κs =
-    let c12 = c .before .before .before .before .before .before .before .before .before .before .before .before in
-    let c15 = c12 .before .before .before in
-    let p = c15 .pre in (
-      p .0,
-      (
-        p .1 .0,
-        (
-          p .1 .1 .0,
-          (
-            (
-              length-take-le (c15 .args .n * (c15 .args .split .c + c15 .args .f + 1)) (now (c15 .args .known)) (p .1 .1 .1 .0 .0),
-              length-take-le (c15 .args .n * (c15 .args .split .c + c15 .args .f + 1)) (now (c15 .args .marks)) (p .1 .1 .1 .0 .1),
-            ),
-            p .1 .1 .1 .1,
-          ),
-        ),
-      ),
-    )
+    let start = c .before .before .before .before .before .before .before .before .before .before .before .before .before .before .before in
+    let p = start .pre in
+    (p .0, (p .1 .0, (p .1 .1 .0, ((known-part start, spare-part start), p .1 .1 .1 .1))))
 
 same-length-2 : tie.Need-same-length-2
 same-length-2 c = search needs

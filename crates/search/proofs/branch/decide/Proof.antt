@@ -1,3 +1,7 @@
+-- What is noted stays open from the entry on, by what `note_proposed` asks and ensures. Where it has noted the split, the split stays
+-- open by that. Else both branches are worked out, and `worked` says what comes of it: the answer is whether the split closes, and
+-- `known` holds what is known in the branch that was worked on last. Where the split stays open, so does that branch, and with it
+-- each value that is known in it (`last-kept`); so the notes that are set from it stay open too (`notes-set`).
 use denote.Ref.{now}
 use native.Mathlib.Omega.{arith}
 use Rattle.netlist.proofs.SoundLaws.{sound-size}
@@ -7,16 +11,55 @@ use borrow.Author.Needs.{needs}
 use Rattle.search.proofs.branch.decide.Statement.{statement}
 use Rattle.search.proofs.branch.decide.Tie as tie
 use Prim.Native.Nat.{ℕ, _+_, _*_, _/_, _<_}
-use mathlib.Core.Path.{_∙_, ap, subst, sym}
+use mathlib.Core.Path.{_∙_, _≡_, ap, subst, sym}
 use Rattle.netlist.specs.Netlist.{netOf, pinCount}
 use Rattle.simulator.proofs.ClockLaws.{sound-ordered}
 use Rattle.search.proofs.NotesLaws.{noted-places, notes-set}
 use Rattle.sweeps.proofs.KeptLaws.{last-kept, trial-says}
 use Rattle.splits.specs.Inner.NoteBytes.{notedWith}
+use Rattle.circuit.specs.Fault.{linesOf}
+use Rattle.knowledge.specs.Window.{presentBelow}
+use Rattle.sweeps.specs.Inner.Trials.{lastBranch, windowBytes}
+use Rattle.sweeps.specs.Splits.{splitCloses}
 use Rattle.sweeps.specs.Inner.Work.{KeptOpen}
 
+-- the places: the function's entry, behind the note of a proposed set, and behind the work on both branches
+abbrev entry : tie.After-note-proposed → tie.Start
+entry c = c .before .before .before .before .before .before .before .before .before .before .before
+
+abbrev proposed : tie.After-both-close → tie.After-note-proposed
+proposed c = c .before .before .before .before .before .before .before .before .before .before .before .before .before .before .before .before
+
+-- n is the circuit's size, and the split's node is one of its nodes
+size : (c : tie.Start) → c .args .n ≡ netOf (now (c .args .netlist)) .size
+size c = let s = now (c .args .netlist) in sound-size s (c .args .n) (pinCount s) (c .pre .0)
+
+node-within : (c : tie.Start) → c .args .split .node < netOf (now (c .args .netlist)) .size
+node-within c = omega (arith, size c, c .pre .1 .1 .0 .2)
+
+-- what the work on both branches says: whether the split closes, and what is known in the branch that was worked on last
+worked : (c : tie.After-both-close) →
+    let a = entry (proposed c) .args in
+    let net = netOf (now (a .netlist)) in
+    let s = a .split in
+    (c .both-close .result ≡ splitCloses net (a .fault) (a .f) s)
+    × (c .both-close .last .1 .1 .1 .1 .0
+    ≡ windowBytes net (presentBelow (s .c) (linesOf (a .fault))) (s .c + a .f + 1) (lastBranch net (a .fault) (a .f) s .values))
+worked c =
+    let start = entry (proposed c) in
+    let a = start .args in
+    let p = start .pre in
+    let bs = now (a .netlist) in
+    let inside = p .1 .1 .0 in
+    let w = proposed c .note-proposed in
+    let full = w .kept .1 .1 .1 .1 .1 .0 ∙ p .1 .1 .1 .0 .0 in
+    trial-says bs (a .n) (pinCount bs) (p .0) (a .fault) (a .f) (a .split) (w .last .1 .1 .1 .1 .1 .0) (p .1 .0) (inside .0) (inside .1) (node-within start)
+    (full ∙ ap (λ (x : ℕ). x * (a .split .c + a .f + 1)) (size start)) (w .last .1 .1 .1 .1 .1 .1 .0) (w .kept .1 .1 .1 .1 .1 .1 .0 ∙ p .1 .1 .1 .0 .1 ∙ sym full)
+    (c .both-close .result) _ _ (c .both-close .ensures)
+
 note-proposed-requires : tie.Need-note-proposed-requires
-note-proposed-requires c κs = let p = c .before .before .before .before .before .before .before .before .before .before .pre in
+note-proposed-requires c κs =
+    let p = c .before .before .before .before .before .before .before .before .before .before .pre in
     (p .0, (p .1 .0, (p .1 .1 .0 .0, (p .1 .1 .1 .0, p .1 .1 .1 .1))))
 
 cast-place-of : tie.Need-cast-place-of
@@ -46,16 +89,13 @@ same-length-4 c = search needs
 returns : tie.Need-returns
 unfolding NotedStayOpen
 returns c =
-    let c13 = c .before .before .before .before .before .before .before .before .before .before .before .before .before in
-    let c24 = c13 .before .before .before .before .before .before .before .before .before .before .before in
-    let a = c24 .args in
-    let s = now (a .netlist) in
-    let p = c24 .pre in
-    let w = c13 .note-proposed in
-    let size = sound-size s (a .n) (pinCount s) (p .0) in
-    let place = c .before .before .before .place-of .ensures ∙ ap (λ (x : ℕ). a .split .frame * x + a .split .node) size in
-    let e = ap (λ (x : ℕ). x / 4) (ap (at (w .last .1 .1 .1 .1 .1 .1 .1 .0)) (sym place) ∙ sym (c .before .byte-at .ensures)) ∙ c .if1 .taken in
-    (sym (w .ensures (a .split) (p .1 .1 .0 .1) (omega (arith, size, p .1 .1 .0 .2)) e), w .ensures)
+    let w = c .before .before .before .before .before .before .before .before .before .before .before .before .before in
+    let start = entry w in
+    let a = start .args in
+    let place = c .before .before .before .place-of .ensures ∙ ap (λ (x : ℕ). a .split .frame * x + a .split .node) (size start) in
+    let byte = ap (at (w .note-proposed .last .1 .1 .1 .1 .1 .1 .1 .0)) (sym place) ∙ sym (c .before .byte-at .ensures) in
+    let noted = ap (λ (x : ℕ). x / 4) byte ∙ c .if1 .taken in
+    (sym (w .note-proposed .ensures (a .split) (start .pre .1 .1 .0 .1) (node-within start) noted), w .note-proposed .ensures)
 
 both-close-requires : tie.Need-both-close-requires
 both-close-requires c κs = search needs
@@ -74,21 +114,8 @@ same-length-8 c = search needs
 
 returns-2 : tie.Need-returns-2
 returns-2 c =
-    let a = c .before .before .before .before .before .before .before .before .before .before .before .before .before .before .before .before .before .before .before .before .before .before .before .before .before .before .before .before .before .before .before .before .args in
-    let p = c .before .before .before .before .before .before .before .before .before .before .before .before .before .before .before .before .before .before .before .before .before .before .before .before .before .before .before .before .before .before .before .before .pre in
-    let bs = now (a .netlist) in
-    let net = netOf bs in
-    let W = a .split .c + a .f + 1 in
-    let size = sound-size bs (a .n) (pinCount bs) (p .0) in
-    let inside = p .1 .1 .0 in
-    let w = c .before .before .before .before .before .before .before .before .before .before .before .before .before .before .before .before .before .before .before .before .before .note-proposed in
-    let d = c .before .before .before .before .before .both-close in
-    let hn : a .split .node < net .size = omega (arith, size, inside .2) in
-    let full = w .kept .1 .1 .1 .1 .1 .0 ∙ p .1 .1 .1 .0 .0 in
-    let said =
-    trial-says bs (a .n) (pinCount bs) (p .0) (a .fault) (a .f) (a .split) (w .last .1 .1 .1 .1 .1 .0) (p .1 .0) (inside .0) (inside .1) hn
-    (full ∙ ap (λ (x : ℕ). x * W) size) (w .last .1 .1 .1 .1 .1 .1 .0) (w .kept .1 .1 .1 .1 .1 .1 .0 ∙ p .1 .1 .1 .0 .1 ∙ sym full) (d .result) _ _ (d .ensures) in
-    (sym (c .if2 .taken) ∙ said .0, w .ensures)
+    let t = c .before .before .before .before .before in
+    (sym (c .if2 .taken) ∙ worked t .0, proposed t .note-proposed .ensures)
 
 note-known-requires : tie.Need-note-known-requires
 note-known-requires c κs = search needs
@@ -107,25 +134,18 @@ same-length-12 c = search needs
 
 returns-3 : tie.Need-returns-3
 returns-3 c =
-    let a = c .before .before .before .before .before .before .before .before .before .before .before .before .before .before .before .before .before .before .before .before .before .before .before .before .before .before .before .before .before .before .before .before .before .before .before .before .before .args in
-    let p = c .before .before .before .before .before .before .before .before .before .before .before .before .before .before .before .before .before .before .before .before .before .before .before .before .before .before .before .before .before .before .before .before .before .before .before .before .before .pre in
+    let t = c .before .before .before .before .before .before .before .before .before .before in
+    let start = entry (proposed t) in
+    let a = start .args in
     let bs = now (a .netlist) in
     let net = netOf bs in
-    let W = a .split .c + a .f + 1 in
-    let size = sound-size bs (a .n) (pinCount bs) (p .0) in
-    let inside = p .1 .1 .0 in
-    let w = c .before .before .before .before .before .before .before .before .before .before .before .before .before .before .before .before .before .before .before .before .before .before .before .before .before .before .note-proposed in
-    let d = c .before .before .before .before .before .before .before .before .before .before .both-close in
-    let hn : a .split .node < net .size = omega (arith, size, inside .2) in
-    let full = w .kept .1 .1 .1 .1 .1 .0 ∙ p .1 .1 .1 .0 .0 in
-    let said =
-    trial-says bs (a .n) (pinCount bs) (p .0) (a .fault) (a .f) (a .split) (w .last .1 .1 .1 .1 .1 .0) (p .1 .0) (inside .0) (inside .1) hn
-    (full ∙ ap (λ (x : ℕ). x * W) size) (w .last .1 .1 .1 .1 .1 .1 .0) (w .kept .1 .1 .1 .1 .1 .1 .0 ∙ p .1 .1 .1 .0 .1 ∙ sym full) (d .result) _ _ (d .ensures) in
-    let stays = sym (c .before .before .before .before .before .if2 .left) ∙ said .0 in
-    let o = sound-ordered bs (a .n) (pinCount bs) (p .0) in
-    let values = d .last .1 .1 .1 .1 .0 in
+    let w = proposed t .note-proposed in
+    let stays = sym (c .before .before .before .before .before .if2 .left) ∙ worked t .0 in
+    let o = sound-ordered bs (a .n) (pinCount bs) (start .pre .0) in
+    let last = last-kept net o (a .fault) (a .f) (a .split) (node-within start) (start .pre .1 .1 .0 .1) (sym stays) in
+    let values = t .both-close .last .1 .1 .1 .1 .0 in
+    let kept = subst (KeptOpen net (a .fault) (a .f) (a .split .c)) (sym (worked t .1)) last in
     let before = w .last .1 .1 .1 .1 .1 .1 .1 .0 in
-    let kept = subst (KeptOpen net (a .fault) (a .f) (a .split .c)) (sym (said .1)) (last-kept net o (a .fault) (a .f) (a .split) hn (inside .1) (sym stays)) in
     let noted =
     notes-set net (a .fault) (a .f) (a .split .c) values before (notedWith values (a .split .c) before) kept (noted-places values (a .split .c) before) (w .ensures) in
     (stays, subst (NotedStayOpen net (a .fault) (a .f)) (sym (c .before .before .note-known .ensures)) noted)

@@ -47,13 +47,15 @@ same-length-7 c = search needs
 
 returns-2 : tie.Need-returns-2
 returns-2 c =
-    let a = c .before .before .before .before .before .before .before .before .before .before .before .before .before .before .before .before .before .before .before .before .before .before .before .before .before .args in
-    let p = c .before .before .before .before .before .before .before .before .before .before .before .before .before .before .before .before .before .before .before .before .before .before .before .before .before .pre in
+    let opened = c .before .before .before .before .before .before in
+    let proposed = opened .before .before .before .before .before .before .before .before .before in
+    let start = proposed .before .before .before .before .before .before .before .before .before .before in
+    let a = start .args in
     let bs = now (a .netlist) in
-    let o = sound-ordered bs (a .n) (pinCount bs) (p .0) in
-    let q = c .before .before .before .before .before .before .note-open in
-    let noted = notes-open bs o (a .fault) (a .f) (a .split .c) (c .before .before .before .before .before .before .before .before .before .before .before .before .before .before .before .propose .last .1 .1 .1 .1 .1 .0) (now (a .marks)) (now (a .noted)) (p .1 .1 .1 .1) in
-    subst (NotedStayOpen (netOf bs) (a .fault) (a .f)) (sym (ap (λ (x : Noting). x .noted) (q .ensures))) noted
+    let o = sound-ordered bs (a .n) (pinCount bs) (start .pre .0) in
+    let known = proposed .propose .last .1 .1 .1 .1 .1 .0 in
+    let noted = notes-open bs o (a .fault) (a .f) (a .split .c) known (now (a .spare)) (now (a .noted)) (start .pre .1 .1 .1 .1) in
+    subst (NotedStayOpen (netOf bs) (a .fault) (a .f)) (sym (ap (λ (x : Noting). x .noted) (opened .note-open .ensures))) noted
 
 pub note-proposed-spec : {M : Type 1} → statement M
 note-proposed-spec =

@@ -4,8 +4,6 @@ use lib.ListN.{length}
 use borrow.Author.Needs.{needs}
 use Rattle.search.proofs.notes.take_guess.Statement.{statement}
 use Rattle.search.proofs.notes.take_guess.Tie as tie
-use Rattle.search.proofs.notes.take_guess.Reads as reads
-use Rattle.search.proofs.notes.take_guess.Lts as lts
 
 abbrev Inv-loop : tie.InvT-loop
 Inv-loop noted from known₀ place₀ known place = length known ≡ length known₀

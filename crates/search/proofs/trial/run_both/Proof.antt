@@ -1,11 +1,14 @@
+-- The loop's invariant: the four slices have the circuit's size, and where the latched values of the two circuits were alike at the
+-- entry, they are alike now. A clock keeps that (`stepped`), since the inputs that are drawn are the same for both; and no output
+-- differs in it, so where one does, they were not alike. Behind the loop the answer is false, of which nothing is claimed.
 use Rattle.witness.specs.Inner.Alike.{Alike}
 use Rattle.witness.proofs.WitnessLaws.{both-alike, drawn-inputs}
-use Rattle.netlist.specs.Netlist.{netOf, pinCount}
+use Rattle.netlist.specs.Netlist.{Net, netOf, pinCount}
 use Rattle.circuit.specs.Fault.{linesOf}
 use Rattle.simulator.proofs.ClockLaws.{sound-ordered}
 use Prim.Native.Nat.{_+_, _-_, _≤_}
 use mathlib.Core.Path.{_≡_, refl, sym, _∙_}
-use mathlib.Core.Bool.{false≢true}
+use mathlib.Core.Bool.{false≢true, true}
 use lib.ListN.{length}
 use denote.Ref.{now}
 use borrow.Author.Needs.{needs}
@@ -26,6 +29,47 @@ Inv-loop netlist fault random first₀ second₀ third₀ fourth₀ lane next₀
 abbrev μ-loop : tie.MeasureT-loop
 μ-loop netlist fault random first₀ second₀ third₀ fourth₀ lane next₀ clocks₀ first second third fourth next clocks = 16 - clocks
 
+-- the places: the function's entry, the loop's head, and behind the draw of a turn's inputs
+abbrev entry : tie.At-loop Inv-loop μ-loop → tie.Start Inv-loop μ-loop
+entry c = c .before .before .before .before .before .before
+
+abbrev head : tie.After-draw Inv-loop μ-loop → tie.At-loop Inv-loop μ-loop
+head c = c .before .before .before
+
+abbrev drawn : tie.After-step-both Inv-loop μ-loop → tie.After-draw Inv-loop μ-loop
+drawn c = c .before .before .before .before .before .before .before
+
+-- the circuit
+abbrev net : tie.After-step-both Inv-loop μ-loop → Net
+net c = netOf (now (entry (head (drawn c)) .args .netlist))
+
+-- behind a clock of both circuits the four slices have the circuit's size
+sizes : (c : tie.After-step-both Inv-loop μ-loop) →
+    (length (c .step-both .last .1 .1 .0) ≡ net c .size) ×
+    (length (c .step-both .last .1 .1 .1 .0) ≡ net c .size) ×
+    (length (c .step-both .last .1 .1 .1 .1 .0) ≡ net c .size) ×
+    (length (c .step-both .last .1 .1 .1 .1 .1 .0) ≡ net c .size)
+sizes c =
+    let k = c .step-both .kept .1 .1 in
+    let d = drawn c in
+    let l = head d .loop in
+    (k .0 ∙ d .draw .kept .1 .0 ∙ l .inv .0 .0, k .1 .0 ∙ l .inv .0 .1, k .1 .1 .0 ∙ l .inv .0 .2, k .1 .1 .1 .0 ∙ l .inv .0 .3)
+
+-- from latched values that are alike, no output differs in that clock, and what is latched then is alike
+stepped : (c : tie.After-step-both Inv-loop μ-loop) →
+    let a = entry (head (drawn c)) .args in
+    Alike (net c) (linesOf (a .fault)) (now (a .second)) (now (a .fourth)) →
+    (c .step-both .result ≡ true → ⊥) × Alike (net c) (linesOf (a .fault)) (c .step-both .last .1 .1 .1 .0) (c .step-both .last .1 .1 .1 .1 .1 .0)
+stepped c h =
+    let d = drawn c in
+    let start = entry (head d) in
+    let s = now (start .args .netlist) in
+    let l = head d .loop in
+    let o = sound-ordered s (net c .size) (pinCount s) (start .pre .0) in
+    let inputs = drawn-inputs (net c) (net c .size) refl _ (λ k q. d .draw .ensures k (omega (arith, l .inv .0 .0))) in
+    both-alike (net c) (linesOf (start .args .fault)) o _ (l .second) (l .third) (l .fourth)
+    (d .draw .kept .1 .0 ∙ l .inv .0 .0) (l .inv .0 .1) (l .inv .0 .2) (l .inv .0 .3) inputs (l .inv .2 h) _ _ _ (c .step-both .ensures)
+
 loop-holds : tie.Need-loop-holds Inv-loop μ-loop
 loop-holds c = (c .before .before .before .before .before .pre .1, omega arith, λ h. h)
 
@@ -36,42 +80,19 @@ step-both-requires : tie.Need-step-both-requires Inv-loop μ-loop
 step-both-requires c κs = search needs
 
 same-length : tie.Need-same-length Inv-loop μ-loop
-same-length c = let c9 = c .before .before .before .before .before .before .before .before .before in
-    let c19 = c9 .before .before .before .before .before .before .before .before .before .before in
-    let h = c19 .before .before .before .before .before .before .pre .1 in
-    c9 .step-both .kept .1 .1 .0 ∙ c9 .before .before .before .before .before .before .before .draw .kept .1 .0 ∙ c19 .loop .inv .0 .0 ∙ sym (h .0)
+same-length c = let t = c .before .before .before .before .before .before .before .before .before in sizes t .0 ∙ sym (entry (head (drawn t)) .pre .1 .0)
 
 same-length-2 : tie.Need-same-length-2 Inv-loop μ-loop
-same-length-2 c = let c9 = c .before .before .before .before .before .before .before .before .before in
-    let c19 = c9 .before .before .before .before .before .before .before .before .before .before in
-    let h = c19 .before .before .before .before .before .before .pre .1 in
-    c9 .step-both .kept .1 .1 .1 .0 ∙ c19 .loop .inv .0 .1 ∙ sym (h .1)
+same-length-2 c = let t = c .before .before .before .before .before .before .before .before .before in sizes t .1 ∙ sym (entry (head (drawn t)) .pre .1 .1)
 
 same-length-3 : tie.Need-same-length-3 Inv-loop μ-loop
-same-length-3 c = let c9 = c .before .before .before .before .before .before .before .before .before in
-    let c19 = c9 .before .before .before .before .before .before .before .before .before .before in
-    let h = c19 .before .before .before .before .before .before .pre .1 in
-    c9 .step-both .kept .1 .1 .1 .1 .0 ∙ c19 .loop .inv .0 .2 ∙ sym (h .2)
+same-length-3 c = let t = c .before .before .before .before .before .before .before .before .before in sizes t .2 ∙ sym (entry (head (drawn t)) .pre .1 .2)
 
 same-length-4 : tie.Need-same-length-4 Inv-loop μ-loop
-same-length-4 c = let c9 = c .before .before .before .before .before .before .before .before .before in
-    let c19 = c9 .before .before .before .before .before .before .before .before .before .before in
-    let h = c19 .before .before .before .before .before .before .pre .1 in
-    c9 .step-both .kept .1 .1 .1 .1 .1 .0 ∙ c19 .loop .inv .0 .3 ∙ sym (h .3)
+same-length-4 c = let t = c .before .before .before .before .before .before .before .before .before in sizes t .3 ∙ sym (entry (head (drawn t)) .pre .1 .3)
 
 returns : tie.Need-returns Inv-loop μ-loop
-returns c = let c9 = c .before .before .before .before .before .before .before .before .before in
-    let c19 = c9 .before .before .before .before .before .before .before .before .before .before in
-    let a = c19 .before .before .before .before .before .before .args in
-    let s = now (a .netlist) in
-    let net = netOf s in
-    let l = c19 .loop in
-    let o = sound-ordered s (net .size) (pinCount s) (c19 .before .before .before .before .before .before .pre .0) in
-    let d = c9 .before .before .before .before .before .before .before .draw in
-    let p = drawn-inputs net (net .size) refl _ (λ k q. d .ensures k (omega (arith, l .inv .0 .0))) in
-    let x = d .kept .1 .0 ∙ l .inv .0 .0 in
-    λ e h. both-alike net (linesOf (a .fault)) o _ (l .second) (l .third) (l .fourth) x (l .inv .0 .1) (l .inv .0 .2) (l .inv .0 .3) p (l .inv .2 h) _ _ _
-    (c9 .step-both .ensures) .0 (c .if1 .taken)
+returns c = λ e h. stepped (c .before .before .before .before .before .before .before .before .before) h .0 (c .if1 .taken)
 
 add-clocks : tie.Need-add-clocks Inv-loop μ-loop
 add-clocks c = omega arith
@@ -81,36 +102,21 @@ loop-less c = omega arith
 
 loop-again : tie.Need-loop-again Inv-loop μ-loop
 loop-again c =
-    let clocks = c .before .before .before .before .before .before .before .before .before .before .before .before .before .before .before .before .before .before .before .loop .clocks in
-    let z : clocks + 1 ≤ 16 = omega arith in
-    let c9 = c .before .before .before .before .before .before .before .before .before in
-    let c19 = c9 .before .before .before .before .before .before .before .before .before .before in
-    let a = c19 .before .before .before .before .before .before .args in
-    let s = now (a .netlist) in
-    let net = netOf s in
-    let l = c19 .loop in
-    let o = sound-ordered s (net .size) (pinCount s) (c19 .before .before .before .before .before .before .pre .0) in
-    let d = c9 .before .before .before .before .before .before .before .draw in
-    let p = drawn-inputs net (net .size) refl _ (λ k q. d .ensures k (omega (arith, l .inv .0 .0))) in
-    let x = d .kept .1 .0 ∙ l .inv .0 .0 in
-    let k = c9 .step-both .kept .1 .1 in (
-      (k .0 ∙ x, k .1 .0 ∙ l .inv .0 .1, k .1 .1 .0 ∙ l .inv .0 .2, k .1 .1 .1 .0 ∙ l .inv .0 .3),
-      z,
-      λ h. both-alike net (linesOf (a .fault)) o _ (l .second) (l .third) (l .fourth) x (l .inv .0 .1) (l .inv .0 .2) (l .inv .0 .3) p (l .inv .2 h) _ _ _
-          (c9 .step-both .ensures) .1,
-    )
+    let t = c .before .before .before .before .before .before .before .before .before in
+    let more : head (drawn t) .loop .clocks + 1 ≤ 16 = omega arith in
+    (sizes t, more, λ h. stepped t h .1)
 
 same-length-5 : tie.Need-same-length-5 Inv-loop μ-loop
-same-length-5 c = c .before .loop .inv .0 .0 ∙ sym (c .before .before .before .before .before .before .before .pre .1 .0)
+same-length-5 c = c .before .loop .inv .0 .0 ∙ sym (entry (c .before) .pre .1 .0)
 
 same-length-6 : tie.Need-same-length-6 Inv-loop μ-loop
-same-length-6 c = c .before .loop .inv .0 .1 ∙ sym (c .before .before .before .before .before .before .before .pre .1 .1)
+same-length-6 c = c .before .loop .inv .0 .1 ∙ sym (entry (c .before) .pre .1 .1)
 
 same-length-7 : tie.Need-same-length-7 Inv-loop μ-loop
-same-length-7 c = c .before .loop .inv .0 .2 ∙ sym (c .before .before .before .before .before .before .before .pre .1 .2)
+same-length-7 c = c .before .loop .inv .0 .2 ∙ sym (entry (c .before) .pre .1 .2)
 
 same-length-8 : tie.Need-same-length-8 Inv-loop μ-loop
-same-length-8 c = c .before .loop .inv .0 .3 ∙ sym (c .before .before .before .before .before .before .before .pre .1 .3)
+same-length-8 c = c .before .loop .inv .0 .3 ∙ sym (entry (c .before) .pre .1 .3)
 
 returns-2 : tie.Need-returns-2 Inv-loop μ-loop
 returns-2 c = λ e. absurd (false≢true e)

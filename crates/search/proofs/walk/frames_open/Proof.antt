@@ -1,3 +1,6 @@
+-- The loop's invariant: the four slices are as long as at the entry, what is noted stays open, and no split closes in a frame that has
+-- been passed. A turn whose frame is open adds that frame (`below-more`, by what `frame_open` ensures); another ends the loop with
+-- false, of which nothing is claimed. Behind the loop all frames of the window of b have been passed.
 use Prim.Native.Nat.{ℕ, _-_, _<_}
 use native.Mathlib.Omega.{arith}
 use mathlib.Core.Bool.{false, false≢true}
@@ -14,13 +17,13 @@ use Rattle.search.proofs.walk.frames_open.Statement.{statement}
 use Rattle.search.proofs.walk.frames_open.Tie as tie
 
 abbrev Inv-loop : tie.InvT-loop
-Inv-loop netlist n fault b f known₀ marks₀ noted₀ fan trail₀ w frame₀ known marks noted trail frame =
-    (length known ≡ length known₀) × (length marks ≡ length marks₀) × (length noted ≡ length noted₀) ×
+Inv-loop netlist n fault b f known₀ spare₀ noted₀ fan trail₀ w frame₀ known spare noted trail frame =
+    (length known ≡ length known₀) × (length spare ≡ length spare₀) × (length noted ≡ length noted₀) ×
     (length trail ≡ length trail₀) × NotedStayOpen (netOf netlist) fault f noted ×
     ((t m : ℕ) → t < frame → m < n → splitCloses (netOf netlist) fault f (split b t m) ≡ false)
 
 abbrev μ-loop : tie.MeasureT-loop
-μ-loop netlist n fault b f known₀ marks₀ noted₀ fan trail₀ w frame₀ known marks noted trail frame = w - frame
+μ-loop netlist n fault b f known₀ spare₀ noted₀ fan trail₀ w frame₀ known spare noted trail frame = w - frame
 
 add-w : tie.Need-add-w Inv-loop μ-loop
 add-w c = omega arith

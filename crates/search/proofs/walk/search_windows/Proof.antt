@@ -1,3 +1,5 @@
+-- Where no split closes for b (`window_open`), none closes for a smaller c either (`none-below`), so none is the first: the answer's
+-- c is b + 1. Else the splits are walked, and what `walk_splits` ensures is what is asked.
 use Prim.Native.Nat.{ℕ, _+_, _-_, _<_, _≤_, suc}
 use native.Mathlib.Omega.{arith}
 use mathlib.Core.Bool.{cond, false}

@@ -24,8 +24,8 @@ frames-open-requires c κs =
     let w = c10 .note-window in
     let p = c24 .pre in
     let values = w .kept .1 .1 .1 .1 .1 .1 .0 ∙ p .1 .1 .1 .0 .0 in
-    let marks = w .kept .1 .1 .1 .1 .1 .1 .1 .0 ∙ p .1 .1 .1 .0 .1 in
-    (search needs, (search needs, (search needs, ((values, marks), search needs))))
+    let spare = w .kept .1 .1 .1 .1 .1 .1 .1 .0 ∙ p .1 .1 .1 .0 .1 in
+    (search needs, (search needs, (search needs, ((values, spare), search needs))))
 
 same-length : tie.Need-same-length
 same-length c = search needs

@@ -2,9 +2,6 @@ use borrow.Author.Tests.{eq-eqb, ne-eqb}
 use borrow.Author.Needs.{needs}
 use Rattle.simulator.proofs.clock.assumed_value.Statement.{statement}
 use Rattle.simulator.proofs.clock.assumed_value.Tie as tie
-use Rattle.simulator.proofs.clock.assumed_value.Reads as reads
-use Rattle.simulator.proofs.clock.assumed_value.Lts as lts
-use Rattle.simulator.proofs.clock.pin_value.Reads as pin-value-reads
 
 returns : tie.Need-returns
 returns c = rw (eq-eqb _ _ (c .if1 .taken))

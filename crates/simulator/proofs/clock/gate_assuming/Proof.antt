@@ -1,33 +1,41 @@
-use lib.ListN.{drop, set}
+-- The pins are joined from the last to the first: the loop's invariant says that the value is the gate's function of the pins from `pin`
+-- on, with the assumed value in the place of the assumed pin. It begins with no pin (`function-none`), and each turn adds the pin below
+-- (`assumed-at` for its value, `function-more` for the join). At the end all pins are joined, and the rule may invert the value.
+use mathlib.Core.List.{List}
+use lib.ListN.{drop, length, set}
 use Rattle.netlist.specs.Netlist.{netOf, lengthOf}
 use Rattle.values.specs.Lists.{at}
 use Rattle.gates.specs.Kind.{functionOf, gate}
 use Rattle.circuit.specs.Fault.{linesIn}
+use Rattle.circuit.specs.declared.fault.Circuit.{Circuit}
 use Rattle.simulator.specs.Clock.{pinValues}
 use Rattle.simulator.proofs.PinLaws.{length-assumed, assumed-at, function-none, function-more}
 use denote.Ref.{now}
-use Prim.Native.Nat.{_≤_, _-_, _<_}
+use Prim.Native.Nat.{ℕ, _≤_, _-_, _<_}
 use mathlib.Core.Path.{_≡_}
 use native.Mathlib.Omega.{arith}
 use borrow.Author.Needs.{needs}
 use Rattle.simulator.proofs.clock.gate_assuming.Statement.{statement}
 use Rattle.simulator.proofs.clock.gate_assuming.Tie as tie
-use Rattle.simulator.proofs.clock.gate_assuming.Reads as reads
-use Rattle.simulator.proofs.clock.gate_assuming.Lts as lts
-use Rattle.simulator.proofs.clock.assumed_value.Reads as assumed-value-reads
-use Rattle.gates.proofs.inverted_if.Reads as inverted-if-reads
-use Rattle.gates.proofs.join_of.Reads as join-of-reads
-use Rattle.gates.proofs.rule_of.Reads as rule-of-reads
-use Rattle.gates.proofs.unit_of.Reads as unit-of-reads
-use Rattle.netlist.proofs.kind_of.Reads as kind-of-reads
-use Rattle.netlist.proofs.length_of.Reads as length-of-reads
-use Rattle.netlist.proofs.pins_place.Reads as pins-place-reads
+
+-- the values of a node's pins, with the assumption in the place of the assumed pin
+abbrev pins : List ℕ → Circuit → List ℕ → ℕ → ℕ → ℕ → List ℕ
+pins netlist circuit seen node assumed assumption = set (pinValues (netOf netlist) (linesIn circuit) (at seen) node) assumed assumption
 
 abbrev Inv-loop : tie.InvT-loop
-Inv-loop netlist circuit seen node assumed assumption rule gate place value₀ pin₀ value pin = (pin ≤ lengthOf netlist node) × (value ≡ functionOf gate (drop pin (set (pinValues (netOf netlist) (linesIn circuit) (at seen) node) assumed assumption)))
+Inv-loop netlist circuit seen node assumed assumption rule gate place value₀ pin₀ value pin =
+    (pin ≤ lengthOf netlist node)
+    × (value ≡ functionOf gate (drop pin (pins netlist circuit seen node assumed assumption)))
 
 abbrev μ-loop : tie.MeasureT-loop
 μ-loop netlist circuit seen node assumed assumption rule gate place value₀ pin₀ value pin = pin
+
+-- the same, of what the function is asked, and their number
+abbrev vs : tie.Start Inv-loop μ-loop → List ℕ
+vs s = let a = s .args in pins (now (a .netlist)) (a .circuit) (now (a .seen)) (a .node) (a .assumed) (a .assumption)
+
+length-vs : (s : tie.Start Inv-loop μ-loop) → length (vs s) ≡ lengthOf (now (s .args .netlist)) (s .args .node)
+length-vs s = let a = s .args in length-assumed (now (a .netlist)) (linesIn (a .circuit)) (at (now (a .seen))) (a .node) (a .assumed) (a .assumption)
 
 kind-of-requires : tie.Need-kind-of-requires Inv-loop μ-loop
 kind-of-requires c κs = search needs
@@ -45,13 +53,12 @@ length-of-requires : tie.Need-length-of-requires Inv-loop μ-loop
 length-of-requires c κs = search needs
 
 loop-holds : tie.Need-loop-holds Inv-loop μ-loop
-loop-holds c = let a = c .before .before .before .before .before .before .before .args in
-    let s = now (a .netlist) in
-    let l = linesIn (a .circuit) in
-    let v = at (now (a .seen)) in
-    let vs = set (pinValues (netOf s) l v (a .node)) (a .assumed) (a .assumption) in
-    let len = length-assumed s l v (a .node) (a .assumed) (a .assumption) in
-    (omega (arith, c .length-of .ensures), rw (c .before .unit-of .ensures, c .length-of .ensures, ← len) (function-none (c .before .before .before .rule-of .result .gate) vs))
+loop-holds c =
+    let rule = c .before .before .before in
+    let s = rule .before .before .before .before in (
+      omega (arith, c .length-of .ensures),
+      rw (c .before .unit-of .ensures, c .length-of .ensures, ← length-vs s) (function-none (rule .rule-of .result .gate) (vs s)),
+    )
 
 sub-pin : tie.Need-sub-pin Inv-loop μ-loop
 sub-pin c = search needs
@@ -66,18 +73,18 @@ loop-less : tie.Need-loop-less Inv-loop μ-loop
 loop-less c = omega arith
 
 loop-again : tie.Need-loop-again Inv-loop μ-loop
-loop-again c = let a = c .before .before .before .before .before .before .before .before .before .before .before .args in
-    let s = now (a .netlist) in
-    let l = linesIn (a .circuit) in
-    let v = at (now (a .seen)) in
-    let vs = set (pinValues (netOf s) l v (a .node)) (a .assumed) (a .assumption) in
-    let len = length-assumed s l v (a .node) (a .assumed) (a .assumption) in
-    let g = c .before .before .before .before .before .before .before .rule-of .result .gate in
-    let i = c .before .before .before .loop in
-    let h : i .pin - 1 < lengthOf s (a .node) = omega (arith, i .inv .0, c .before .before .loop-test .taken) in (
+loop-again c =
+    let turn = c .before .before in
+    let i = turn .before .loop in
+    let rule = turn .before .before .before .before .before in
+    let s = rule .before .before .before .before in
+    let a = s .args in
+    let len = length-vs s in
+    let h : i .pin - 1 < lengthOf (now (a .netlist)) (a .node) = omega (arith, i .inv .0, turn .loop-test .taken) in
+    let value = assumed-at (now (a .netlist)) (linesIn (a .circuit)) (at (now (a .seen))) (a .node) (a .assumed) (a .assumption) (i .pin - 1) h in (
       omega (arith, h),
-      rw (c .join-of .ensures, c .before .assumed-value .ensures, ← assumed-at s l v (a .node) (a .assumed) (a .assumption) (i .pin - 1) h, i .inv .1)
-          (function-more g vs (i .pin) (c .before .before .loop-test .taken) (omega (arith, len, i .inv .0))),
+      rw (c .join-of .ensures, c .before .assumed-value .ensures, ← value, i .inv .1)
+          (function-more (rule .rule-of .result .gate) (vs s) (i .pin) (turn .loop-test .taken) (omega (arith, len, i .inv .0))),
     )
 
 inverted-if-requires : tie.Need-inverted-if-requires Inv-loop μ-loop
@@ -85,9 +92,11 @@ inverted-if-requires c κs = search needs
 
 returns : tie.Need-returns Inv-loop μ-loop
 unfolding gate
-returns c = let i = c .before .before .loop in
+returns c =
+    let i = c .before .before .loop in
+    let rule = c .before .before .before .before .before .before in
     let z : i .pin ≡ 0 = omega arith in
-    rw (c .inverted-if .ensures, i .inv .1, z, c .before .before .before .before .before .before .rule-of .ensures, c .before .before .before .before .before .before .before .kind-of .ensures)
+    rw (c .inverted-if .ensures, i .inv .1, z, rule .rule-of .ensures, rule .before .kind-of .ensures)
 
 pub gate-assuming-spec : {M : Type 1} → statement M
 gate-assuming-spec =

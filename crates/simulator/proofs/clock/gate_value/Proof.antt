@@ -14,9 +14,6 @@ use Rattle.simulator.proofs.PinLaws.{length-pinValues}
 use borrow.Author.Needs.{needs}
 use Rattle.simulator.proofs.clock.gate_value.Statement.{statement}
 use Rattle.simulator.proofs.clock.gate_value.Tie as tie
-use Rattle.simulator.proofs.clock.gate_value.Reads as reads
-use Rattle.simulator.proofs.clock.gate_value.Lts as lts
-use Rattle.simulator.proofs.clock.gate_assuming.Reads as gate-assuming-reads
 
 gate-assuming-requires : tie.Need-gate-assuming-requires
 gate-assuming-requires c κs = search needs

@@ -14,16 +14,17 @@ use lib.ListN.{length}
 use mathlib.Core.Path.{_≡_, ap, refl, _∙_}
 use Rattle.simulator.proofs.clock.latch.Statement.{statement}
 use Rattle.simulator.proofs.clock.latch.Tie as tie
-use Rattle.simulator.proofs.clock.latch.Reads as reads
-use Rattle.simulator.proofs.clock.latch.Lts as lts
-use Rattle.simulator.proofs.clock.latched_value.Reads as latched-value-reads
-use Rattle.values.proofs.store.Reads as store-reads
 
 abbrev Inv-loop : tie.InvT-loop
-Inv-loop netlist n circuit seen second₀ node₀ second node = (node ≤ n) × (second ≡ rewritten (λ _. latchedBy (netOf netlist) (linesIn circuit) (at seen)) node second₀)
+Inv-loop netlist n circuit seen second₀ node₀ second node =
+    (node ≤ n) × (second ≡ rewritten (λ _. latchedBy (netOf netlist) (linesIn circuit) (at seen)) node second₀)
 
 abbrev μ-loop : tie.MeasureT-loop
 μ-loop netlist n circuit seen second₀ node₀ second node = n - node
+
+-- what each place is rewritten to
+abbrev latches : tie.Start Inv-loop μ-loop → List ℕ → ℕ → ℕ
+latches s = λ _. latchedBy (netOf (now (s .args .netlist))) (linesIn (s .args .circuit)) (at (now (s .args .seen)))
 
 loop-holds : tie.Need-loop-holds Inv-loop μ-loop
 unfolding rewritten
@@ -45,24 +46,26 @@ loop-less : tie.Need-loop-less Inv-loop μ-loop
 loop-less c = omega arith
 
 loop-again : tie.Need-loop-again Inv-loop μ-loop
-loop-again c = let a = c .before .before .before .before .before .before .before .before .before .before .args in
-    let f : List ℕ → ℕ → ℕ = λ _. latchedBy (netOf (now (a .netlist))) (linesIn (a .circuit)) (at (now (a .seen))) in
-    let l = c .before .before .before .before .before .before .loop in
-    (omega arith, rw (c .before .before .store .ensures, c .before .before .before .before .latched-value .ensures, l .inv .1) (rewritten-more f (now (a .second)) (l .node)))
+loop-again c =
+    let v = c .before .before .before .before in
+    let turn = v .before .before in
+    let s = turn .before .before .before .before in
+    let l = turn .loop in
+    (omega arith, rw (c .before .before .store .ensures, v .latched-value .ensures, l .inv .1) (rewritten-more (latches s) (now (s .args .second)) (l .node)))
 
 same-length : tie.Need-same-length Inv-loop μ-loop
-same-length c = let a = c .before .before .before .before .before .args in
-    let f : List ℕ → ℕ → ℕ = λ _. latchedBy (netOf (now (a .netlist))) (linesIn (a .circuit)) (at (now (a .seen))) in
+same-length c =
+    let s = c .before .before .before .before .before in
     let l = c .before .loop in
-    ap length (l .inv .1) ∙ length-rewritten f (now (a .second)) (l .node)
+    ap length (l .inv .1) ∙ length-rewritten (latches s) (now (s .args .second)) (l .node)
 
 returns : tie.Need-returns Inv-loop μ-loop
 unfolding latchedInto
-returns c = let a = c .before .before .before .before .before .args in
-    let f : List ℕ → ℕ → ℕ = λ _. latchedBy (netOf (now (a .netlist))) (linesIn (a .circuit)) (at (now (a .seen))) in
+returns c =
+    let s = c .before .before .before .before .before in
     let l = c .before .loop in
-    let h : l .node ≡ a .n = omega arith in
-    l .inv .1 ∙ ap (λ (i : ℕ). rewritten f i (now (a .second))) h
+    let h : l .node ≡ s .args .n = omega arith in
+    l .inv .1 ∙ ap (λ (i : ℕ). rewritten (latches s) i (now (s .args .second))) h
 
 pub latch-spec : {M : Type 1} → statement M
 latch-spec =

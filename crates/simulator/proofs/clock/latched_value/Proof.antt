@@ -12,12 +12,6 @@ use Rattle.netlist.specs.Netlist.{kindOf, lengthOf, netOf}
 use borrow.Author.Needs.{needs}
 use Rattle.simulator.proofs.clock.latched_value.Statement.{statement}
 use Rattle.simulator.proofs.clock.latched_value.Tie as tie
-use Rattle.simulator.proofs.clock.latched_value.Reads as reads
-use Rattle.simulator.proofs.clock.latched_value.Lts as lts
-use Rattle.simulator.proofs.clock.pin_value.Reads as pin-value-reads
-use Rattle.netlist.proofs.kind_of.Reads as kind-of-reads
-use Rattle.netlist.proofs.length_of.Reads as length-of-reads
-use Rattle.netlist.proofs.pins_place.Reads as pins-place-reads
 
 kind-of-requires : tie.Need-kind-of-requires
 kind-of-requires c κs = search needs
@@ -31,11 +25,15 @@ length-of-requires c κs = search needs
 
 returns-2 : tie.Need-returns-2
 unfolding latchedBy netOf
-returns-2 c = let a = c .before .before .before .before .before .before .args in
+returns-2 c =
+    let e = c .before .before in
+    let a = e .before .before .before .before .args in
     let s = now (a .netlist) in
-    let k : kindOf s (a .node) ≡ 2 = omega (arith, c .before .before .before .kind-of .ensures, c .before .before .if1 .left) in
+    let l = linesIn (a .circuit) in
+    let v = at (now (a .seen)) in
+    let k : kindOf s (a .node) ≡ 2 = omega (arith, e .before .kind-of .ensures, e .if1 .left) in
     let h : lengthOf s (a .node) ≤ 0 = omega (arith, c .before .length-of .ensures, c .if2 .taken) in
-    rw k (sym (List·getD-eq-default (pinValues (netOf s) (linesIn (a .circuit)) (at (now (a .seen))) (a .node)) 0 (rw (length-pinValues s (linesIn (a .circuit)) (at (now (a .seen))) (a .node)) h)))
+    rw k (sym (List·getD-eq-default (pinValues (netOf s) l v (a .node)) 0 (rw (length-pinValues s l v (a .node)) h)))
 
 pins-place-requires : tie.Need-pins-place-requires
 pins-place-requires c κs = search needs
@@ -45,9 +43,11 @@ pin-value-requires c κs = search needs
 
 returns-3 : tie.Need-returns-3
 unfolding latchedBy netOf
-returns-3 c = let a = c .before .before .before .before .before .before .before .before .args in
+returns-3 c =
+    let e = c .before .before .before .before in
+    let a = e .before .before .before .before .args in
     let s = now (a .netlist) in
-    let k : kindOf s (a .node) ≡ 2 = omega (arith, c .before .before .before .before .before .kind-of .ensures, c .before .before .before .before .if1 .left) in
+    let k : kindOf s (a .node) ≡ 2 = omega (arith, e .before .kind-of .ensures, e .if1 .left) in
     let h : 0 < lengthOf s (a .node) = omega (arith, c .before .before .before .length-of .ensures, c .before .before .if2 .left) in
     rw (k, c .pin-value .ensures) (sym (pinValues-at s (linesIn (a .circuit)) (at (now (a .seen))) (a .node) 0 h))
 

@@ -4,11 +4,6 @@ use Rattle.simulator.specs.Clock.{placeFits}
 use borrow.Author.Needs.{needs}
 use Rattle.simulator.proofs.clock.place_fits.Statement.{statement}
 use Rattle.simulator.proofs.clock.place_fits.Tie as tie
-use Rattle.simulator.proofs.clock.place_fits.Reads as reads
-use Rattle.simulator.proofs.clock.place_fits.Lts as lts
-use Rattle.values.proofs.byte_at.Reads as byte-at-reads
-use Rattle.gates.proofs.is_given.Reads as is-given-reads
-use Rattle.netlist.proofs.kind_of.Reads as kind-of-reads
 
 kind-of-requires : tie.Need-kind-of-requires
 kind-of-requires c κs = search needs
@@ -25,7 +20,9 @@ returns c = rw (← c .before .before .kind-of .ensures, ← c .before .is-given
 
 returns-2 : tie.Need-returns-2
 unfolding placeFits netOf
-returns-2 c = rw (← c .before .before .before .kind-of .ensures, ← c .before .before .is-given .ensures, not-false (c .before .before .is-given .result) (c .before .if1 .left), c .byte-at .ensures)
+returns-2 c =
+    let g = c .before .before in
+    rw (← g .before .kind-of .ensures, ← g .is-given .ensures, not-false (g .is-given .result) (c .before .if1 .left), c .byte-at .ensures)
 
 pub place-fits-spec : {M : Type 1} → statement M
 place-fits-spec =

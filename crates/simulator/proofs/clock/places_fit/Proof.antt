@@ -11,9 +11,6 @@ use native.Mathlib.Omega.{arith}
 use borrow.Author.Needs.{needs}
 use Rattle.simulator.proofs.clock.places_fit.Statement.{statement}
 use Rattle.simulator.proofs.clock.places_fit.Tie as tie
-use Rattle.simulator.proofs.clock.places_fit.Reads as reads
-use Rattle.simulator.proofs.clock.places_fit.Lts as lts
-use Rattle.simulator.proofs.clock.place_fits.Reads as place-fits-reads
 
 abbrev Inv-loop : tie.InvT-loop
 Inv-loop netlist n first node₀ node = (node ≤ n) × (every (placeFits (netOf netlist) first) node ≡ true)
@@ -30,7 +27,9 @@ place-fits-requires c κs = search needs
 
 returns : tie.Need-returns Inv-loop μ-loop
 returns c = let a = c .before .before .before .before .before .before .args in
-    sym (every-fails (placeFits (netOf (now (a .netlist))) (now (a .first))) _ (c .before .before .before .loop .node) (c .before .before .loop-test .taken) (sym (c .before .place-fits .ensures) ∙ not-true _ (c .if1 .taken)))
+    let l = c .before .before .before .loop in
+    let fails = sym (c .before .place-fits .ensures) ∙ not-true _ (c .if1 .taken) in
+    sym (every-fails (placeFits (netOf (now (a .netlist))) (now (a .first))) _ (l .node) (c .before .before .loop-test .taken) fails)
 
 add-node : tie.Need-add-node Inv-loop μ-loop
 add-node c = omega arith
@@ -41,7 +40,8 @@ loop-less c = omega arith
 loop-again : tie.Need-loop-again Inv-loop μ-loop
 loop-again c = let a = c .before .before .before .before .before .before .args in
     let l = c .before .before .before .loop in
-    (omega arith, every-more (placeFits (netOf (now (a .netlist))) (now (a .first))) (l .node) (l .inv .1) (sym (c .before .place-fits .ensures) ∙ not-false _ (c .if1 .left)))
+    let passes = sym (c .before .place-fits .ensures) ∙ not-false _ (c .if1 .left) in
+    (omega arith, every-more (placeFits (netOf (now (a .netlist))) (now (a .first))) (l .node) (l .inv .1) passes)
 
 returns-2 : tie.Need-returns-2 Inv-loop μ-loop
 returns-2 c = let a = c .before .before .before .before .args in

@@ -1,27 +1,38 @@
-use Rattle.netlist.specs.Netlist.{netOf}
+use Rattle.gates.specs.Kind.{isGiven}
+use Rattle.netlist.specs.Netlist.{Net, netOf}
 use Rattle.values.specs.Lists.{at}
 use Rattle.circuit.specs.Fault.{linesIn}
 use Rattle.simulator.proofs.ClockLaws.{seenBy-stuck, seenBy-given, seenBy-gate}
 use denote.Ref.{now}
-use mathlib.Core.Path.{sym, _∙_}
+use mathlib.Core.Path.{_≡_, sym, _∙_}
+use Prim.Native.Nat.{_≤_}
 use borrow.Author.Needs.{needs}
 use Rattle.simulator.proofs.clock.seen_value.Statement.{statement}
 use Rattle.simulator.proofs.clock.seen_value.Tie as tie
-use Rattle.simulator.proofs.clock.seen_value.Reads as reads
-use Rattle.simulator.proofs.clock.seen_value.Lts as lts
-use Rattle.values.proofs.byte_at.Reads as byte-at-reads
-use Rattle.simulator.proofs.clock.gate_value.Reads as gate-value-reads
-use Rattle.circuit.proofs.stuck_node.Reads as stuck-node-reads
-use Rattle.gates.proofs.is_given.Reads as is-given-reads
-use Rattle.netlist.proofs.kind_of.Reads as kind-of-reads
+
+-- where the node is not stuck, and it is known whether its value is given
+abbrev start : tie.After-is-given → tie.Start
+start g = g .before .before .before .before .before .before
+
+abbrev net : tie.After-is-given → Net
+net g = netOf (now (start g .args .netlist))
+
+not-stuck : (g : tie.After-is-given) → 2 ≤ linesIn (start g .args .circuit) .node (start g .args .node)
+not-stuck g = let e = g .before .before in rw (e .before .stuck-node .ensures) at (e .if1 .left)
+
+given-by : (g : tie.After-is-given) → isGiven (net g .kind (start g .args .node)) ≡ g .is-given .result
+unfolding netOf
+given-by g = rw (← g .before .kind-of .ensures) (sym (g .is-given .ensures))
 
 stuck-node-requires : tie.Need-stuck-node-requires
 stuck-node-requires c κs = search needs
 
 returns : tie.Need-returns
-returns c = let a = c .before .before .before .before .args in
+returns c =
+    let a = c .before .before .before .before .args in
     let v = at (now (a .seen)) in
-    c .before .stuck-node .ensures ∙ sym (seenBy-stuck (netOf (now (a .netlist))) (linesIn (a .circuit)) v v (a .node) (rw (c .before .stuck-node .ensures) at (c .if1 .taken)))
+    let stuck = c .before .stuck-node .ensures in
+    stuck ∙ sym (seenBy-stuck (netOf (now (a .netlist))) (linesIn (a .circuit)) v v (a .node) (rw stuck at (c .if1 .taken)))
 
 kind-of-requires : tie.Need-kind-of-requires
 kind-of-requires c κs = search needs
@@ -33,19 +44,22 @@ byte-at-requires : tie.Need-byte-at-requires
 byte-at-requires c κs = search needs
 
 returns-2 : tie.Need-returns-2
-unfolding netOf
-returns-2 c = let a = c .before .before .before .before .before .before .before .before .args in
+returns-2 c =
+    let g = c .before .before in
+    let a = start g .args in
     let v = at (now (a .seen)) in
-    c .byte-at .ensures ∙ sym (seenBy-given (netOf (now (a .netlist))) (linesIn (a .circuit)) v v (a .node) (rw (c .before .before .before .before .before .stuck-node .ensures) at (c .before .before .before .before .if1 .left)) (rw (← c .before .before .before .kind-of .ensures) (sym (c .before .before .is-given .ensures) ∙ c .before .if2 .taken)))
+    c .byte-at .ensures ∙ sym (seenBy-given (net g) (linesIn (a .circuit)) v v (a .node) (not-stuck g) (given-by g ∙ c .before .if2 .taken))
 
 gate-value-requires : tie.Need-gate-value-requires
 gate-value-requires c κs = search needs
 
 returns-3 : tie.Need-returns-3
 unfolding netOf
-returns-3 c = let a = c .before .before .before .before .before .before .before .before .args in
+returns-3 c =
+    let g = c .before .before in
+    let a = start g .args in
     let v = at (now (a .seen)) in
-    c .gate-value .ensures ∙ sym (seenBy-gate (netOf (now (a .netlist))) (linesIn (a .circuit)) v v (a .node) (rw (c .before .before .before .before .before .stuck-node .ensures) at (c .before .before .before .before .if1 .left)) (rw (← c .before .before .before .kind-of .ensures) (sym (c .before .before .is-given .ensures) ∙ c .before .if2 .left)))
+    c .gate-value .ensures ∙ sym (seenBy-gate (net g) (linesIn (a .circuit)) v v (a .node) (not-stuck g) (given-by g ∙ c .before .if2 .left))
 
 pub seen-value-spec : {M : Type 1} → statement M
 seen-value-spec =

@@ -14,10 +14,6 @@ use lib.ListN.{length}
 use mathlib.Core.Path.{_≡_, ap, refl, _∙_}
 use Rattle.simulator.proofs.clock.settle.Statement.{statement}
 use Rattle.simulator.proofs.clock.settle.Tie as tie
-use Rattle.simulator.proofs.clock.settle.Reads as reads
-use Rattle.simulator.proofs.clock.settle.Lts as lts
-use Rattle.simulator.proofs.clock.seen_value.Reads as seen-value-reads
-use Rattle.values.proofs.store.Reads as store-reads
 
 abbrev Inv-loop : tie.InvT-loop
 Inv-loop netlist n circuit first₀ node₀ first node = (node ≤ n) × (first ≡ rewritten (λ e. seenBy (netOf netlist) (linesIn circuit) (at e) (at e)) node first₀)

@@ -1,3 +1,6 @@
+-- For a c that has no window nothing is noted (`returns`). Else the loop goes through the places of the set: its invariant says that the
+-- notes keep their length, and are those that were given, rewritten by `noteOver` at all places below `place`. A turn notes a value
+-- (`noted-value`, with the store's contract) or finds none and leaves the byte (`noted-none`). At the end all places are rewritten.
 use native.Mathlib.Omega.{arith}
 use Prim.Native.Nat.{ℕ, _+_, _-_, _≤_}
 use mathlib.Core.Logic.{⊎-elim}
@@ -11,10 +14,6 @@ use Rattle.splits.specs.Inner.NoteBytes.{noteOver, notedWith}
 use Rattle.splits.proofs.NoteLaws.{noted-none, noted-value}
 use Rattle.splits.proofs.notes.note_known.Statement.{statement}
 use Rattle.splits.proofs.notes.note_known.Tie as tie
-use Rattle.splits.proofs.notes.note_known.Reads as reads
-use Rattle.splits.proofs.notes.note_known.Lts as lts
-use Rattle.values.proofs.byte_at.Reads as byte-at-reads
-use Rattle.values.proofs.store.Reads as store-reads
 
 abbrev Inv-loop : tie.InvT-loop
 Inv-loop known c noted₀ place₀ noted place =

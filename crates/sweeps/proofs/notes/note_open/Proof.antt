@@ -7,10 +7,6 @@ use Rattle.sweeps.specs.Inner.Trials.{noting, tried}
 use Rattle.sweeps.proofs.TrialLaws.{noting-by}
 use Rattle.sweeps.proofs.notes.note_open.Statement.{statement}
 use Rattle.sweeps.proofs.notes.note_open.Tie as tie
-use Rattle.sweeps.proofs.notes.note_open.Reads as reads
-use Rattle.sweeps.proofs.notes.note_open.Lts as lts
-use Rattle.splits.proofs.note_known.Reads as note-known-reads
-use Rattle.sweeps.proofs.open.is_open_set.Reads as is-open-set-reads
 
 is-open-set-requires : tie.Need-is-open-set-requires
 is-open-set-requires c κs = search needs
@@ -26,9 +22,9 @@ returns c =
     let a = c .before .before .before .before .before .before .before .before .before .before .before .before .args in
     let q = c .before .before .before .before .before .is-open-set in
     let kn = q .last .1 .1 .1 .1 .0 in
-    let marks = q .last .1 .1 .1 .1 .1 .0 in
-    let e = ap (λ (x : Bool). tried x kn marks) (sym (not-true (q .result) (c .if1 .taken))) ∙ q .ensures in
-    let by = noting-by (now (a .netlist)) (a .fault) (a .c) (a .f) (now (a .known)) (now (a .marks)) (now (a .noted)) false kn marks e in
+    let touched = q .last .1 .1 .1 .1 .1 .0 in
+    let e = ap (λ (x : Bool). tried x kn touched) (sym (not-true (q .result) (c .if1 .taken))) ∙ q .ensures in
+    let by = noting-by (now (a .netlist)) (a .fault) (a .c) (a .f) (now (a .known)) (now (a .touched)) (now (a .noted)) false kn touched e in
     by
 
 note-known-requires : tie.Need-note-known-requires
@@ -48,10 +44,10 @@ returns-2 c =
     let a = c .before .before .before .before .before .before .before .before .before .before .before .before .before .before .before .before .before .args in
     let q = c .before .before .before .before .before .before .before .before .before .before .is-open-set in
     let kn = q .last .1 .1 .1 .1 .0 in
-    let marks = q .last .1 .1 .1 .1 .1 .0 in
-    let e = ap (λ (x : Bool). tried x kn marks) (sym (not-false (q .result) (c .before .before .before .before .before .if1 .left))) ∙ q .ensures in
-    let by = noting-by (now (a .netlist)) (a .fault) (a .c) (a .f) (now (a .known)) (now (a .marks)) (now (a .noted)) true kn marks e in
-    ap (noting (tried true kn marks)) (c .before .before .note-known .ensures) ∙ by
+    let touched = q .last .1 .1 .1 .1 .1 .0 in
+    let e = ap (λ (x : Bool). tried x kn touched) (sym (not-false (q .result) (c .before .before .before .before .before .if1 .left))) ∙ q .ensures in
+    let by = noting-by (now (a .netlist)) (a .fault) (a .c) (a .f) (now (a .known)) (now (a .touched)) (now (a .noted)) true kn touched e in
+    ap (noting (tried true kn touched)) (c .before .before .note-known .ensures) ∙ by
 
 pub note-open-spec : {M : Type 1} → statement M
 note-open-spec =

@@ -9,11 +9,6 @@ use Rattle.sweeps.proofs.GuessLaws.{held-more}
 use Rattle.sweeps.proofs.TrialLaws.{has-all, has-missing, has-nowhere}
 use Rattle.sweeps.proofs.open.holds_fault.Statement.{statement}
 use Rattle.sweeps.proofs.open.holds_fault.Tie as tie
-use Rattle.sweeps.proofs.open.holds_fault.Reads as reads
-use Rattle.sweeps.proofs.open.holds_fault.Lts as lts
-use Rattle.knowledge.proofs.place_of.Reads as place-of-reads
-use Rattle.circuit.proofs.stuck_node.Reads as stuck-node-reads
-use Rattle.values.proofs.byte_at.Reads as byte-at-reads
 
 abbrev Inv-loop : tie.InvT-loop
 Inv-loop n c known node stuck frame₀ frame = (frame ≤ c) × ((t : ℕ) → t < frame → at known (t * n + node) ≡ stuck)
@@ -43,11 +38,15 @@ byte-at-requires c κs = search needs
 
 returns-2 : tie.Need-returns-2 Inv-loop μ-loop
 unfolding linesIn
-returns-2 c = let a = c .before .before .before .before .before .before .before .before .args in
-    let l = c .before .before .before .before .loop in
-    let stuck = c .before .before .before .before .before .before .stuck-node .ensures in
-    has-missing (a .n) (a .fault) (a .c) (now (a .known)) (omega (arith, stuck, c .before .before .before .before .before .if1 .left)) (l .frame) (c .before .before .before .loop-test .taken)
-    (λ e. c .if2 .taken (c .before .byte-at .ensures ∙ ap (at (now (a .known))) (c .before .before .place-of .ensures) ∙ e ∙ sym stuck))
+returns-2 c =
+    let p = c .before .before in
+    let l = p .before .before .loop in
+    let i = p .before .before .before in
+    let a = i .before .before .before .args in
+    let stuck = i .before .stuck-node .ensures in
+    let read = c .before .byte-at .ensures ∙ ap (at (now (a .known))) (p .place-of .ensures) in
+    has-missing (a .n) (a .fault) (a .c) (now (a .known)) (omega (arith, stuck, i .if1 .left)) (l .frame) (p .before .loop-test .taken)
+    (λ e. c .if2 .taken (read ∙ e ∙ sym stuck))
 
 add-frame : tie.Need-add-frame Inv-loop μ-loop
 add-frame c = search needs
@@ -56,10 +55,13 @@ loop-less : tie.Need-loop-less Inv-loop μ-loop
 loop-less c = search needs
 
 loop-again : tie.Need-loop-again Inv-loop μ-loop
-loop-again c = let a = c .before .before .before .before .before .before .before .before .args in
-    let l = c .before .before .before .before .loop in
-    let here = ap (at (now (a .known))) (sym (c .before .before .place-of .ensures)) ∙ sym (c .before .byte-at .ensures) ∙ c .if2 .left in
-    (omega arith, held-more (now (a .known)) (a .n) (a .fault .node) (c .before .before .before .before .before .before .stuck-node .result) (l .frame) (l .inv .1) here)
+loop-again c =
+    let p = c .before .before in
+    let l = p .before .before .loop in
+    let i = p .before .before .before in
+    let a = i .before .before .before .args in
+    let here = ap (at (now (a .known))) (sym (p .place-of .ensures)) ∙ sym (c .before .byte-at .ensures) ∙ c .if2 .left in
+    (omega arith, held-more (now (a .known)) (a .n) (a .fault .node) (i .before .stuck-node .result) (l .frame) (l .inv .1) here)
 
 returns-3 : tie.Need-returns-3 Inv-loop μ-loop
 unfolding linesIn

@@ -7,10 +7,6 @@ use borrow.Author.Needs.{needs}
 use Rattle.sweeps.specs.Inner.Work.{frameNoted}
 use Rattle.sweeps.proofs.sweep.note_frame.Statement.{statement}
 use Rattle.sweeps.proofs.sweep.note_frame.Tie as tie
-use Rattle.sweeps.proofs.sweep.note_frame.Reads as reads
-use Rattle.sweeps.proofs.sweep.note_frame.Lts as lts
-use Rattle.knowledge.proofs.pin_frame.Reads as pin-frame-reads
-use Rattle.values.proofs.store.Reads as store-reads
 
 store-requires : tie.Need-store-requires
 store-requires c κs = search needs
@@ -46,12 +42,18 @@ same-length-2 c = search needs
 
 returns-2 : tie.Need-returns-2
 unfolding frameNoted
-returns-2 c = let a = c .before .before .before .before .before .before .before .before .before .before .before .before .before .before .before .args in
-    c .before .before .store4 .ensures
-    ∙ ap (λ (l : List ℕ). set l (a .frame + 1) 0) (c .before .before .before .before .before .before .store3 .ensures)
-    ∙ ap (λ (l : List ℕ). set (set l (a .frame) 0) (a .frame + 1) 0) (c .before .before .before .before .before .before .before .before .before .before .store2 .ensures)
-    ∙ ap (λ (p : ℕ). set (set (set (now (a .calm)) p 0) (a .frame) 0) (a .frame + 1) 0) (c .before .before .before .before .before .before .before .before .before .before .before .before .pin-frame .ensures)
-    ∙ ap (frameNoted (now (a .calm)) (a .frame)) (sym (c .before .before .before .before .before .before .before .before .before .before .before .before .before .if1 .left))
+returns-2 c =
+    let third = c .before .before in
+    let second = third .before .before .before .before in
+    let first = second .before .before .before .before in
+    let pins = first .before .before in
+    let i = pins .before in
+    let a = i .before .before .args in
+    third .store4 .ensures
+    ∙ ap (λ (l : List ℕ). set l (a .frame + 1) 0) (second .store3 .ensures)
+    ∙ ap (λ (l : List ℕ). set (set l (a .frame) 0) (a .frame + 1) 0) (first .store2 .ensures)
+    ∙ ap (λ (p : ℕ). set (set (set (now (a .calm)) p 0) (a .frame) 0) (a .frame + 1) 0) (pins .pin-frame .ensures)
+    ∙ ap (frameNoted (now (a .calm)) (a .frame)) (sym (i .if1 .left))
 
 pub note-frame-spec : {M : Type 1} → statement M
 note-frame-spec =

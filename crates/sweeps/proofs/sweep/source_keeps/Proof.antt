@@ -10,16 +10,19 @@ use borrow.Author.Tests.{not-false, not-true}
 use borrow.Author.Needs.{needs}
 use Rattle.sweeps.proofs.sweep.source_keeps.Statement.{statement}
 use Rattle.sweeps.proofs.sweep.source_keeps.Tie as tie
-use Rattle.sweeps.proofs.sweep.source_keeps.Reads as reads
-use Rattle.sweeps.proofs.sweep.source_keeps.Lts as lts
-use Rattle.knowledge.proofs.pin_frame.Reads as pin-frame-reads
-use Rattle.knowledge.proofs.place_of.Reads as place-of-reads
-use Rattle.values.proofs.byte_at.Reads as byte-at-reads
-use Rattle.netlist.proofs.kind_of.Reads as kind-of-reads
-use Rattle.netlist.proofs.source_of.Reads as source-of-reads
+
+-- the place of the pin's source in the frame of the pins, and whether it is known
+module _ (s : tie.Start) where
+  abbrev place : ℕ
+  place = let a = s .args in pinFrame (kindOf (now (a .netlist)) (a .node)) (a .frame) * a .n + sourceOf (now (a .netlist)) (a .node) (a .pin)
+
+  abbrev known : Bool
+  known = ltb (at (now (s .args .known)) place) 2
 
 returns : tie.Need-returns
-returns c = sym (ap (λ (b : Bool). b && ltb (at (now (c .before .before .before .args .known)) (pinFrame (kindOf (now (c .before .before .before .args .netlist)) (c .before .before .before .args .node)) (c .before .before .before .args .frame) * c .before .before .before .args .n + sourceOf (now (c .before .before .before .args .netlist)) (c .before .before .before .args .node) (c .before .before .before .args .pin))) 2) (not-true (c .before .before .before .args .settled) (c .if1 .taken)))
+returns c =
+    let s = c .before .before .before in
+    sym (ap (λ (b : Bool). b && known s) (not-true (s .args .settled) (c .if1 .taken)))
 
 kind-of-requires : tie.Need-kind-of-requires
 kind-of-requires c κs = search needs
@@ -40,13 +43,14 @@ byte-at-requires : tie.Need-byte-at-requires
 byte-at-requires c κs = search needs
 
 returns-2 : tie.Need-returns-2
-returns-2 c = let a = c .before .before .before .before .before .before .before .before .args in
-    let place = pinFrame (kindOf (now (a .netlist)) (a .node)) (a .frame) * a .n + sourceOf (now (a .netlist)) (a .node) (a .pin) in
-    ap (λ (x : ℕ). ltb x 2)
-    (c .byte-at .ensures
-    ∙ ap (at (now (a .known)))
-    (c .before .place-of .ensures ∙ (λ i. (c .before .before .before .pin-frame .ensures ∙ ap (λ (k : ℕ). pinFrame k (a .frame)) (c .before .before .before .before .kind-of .ensures)) i * a .n + c .before .before .source-of .ensures i)))
-    ∙ ap (λ (b : Bool). b && ltb (at (now (a .known)) place) 2) (sym (not-false (a .settled) (c .before .before .before .before .before .if1 .left)))
+returns-2 c =
+    let p = c .before .before .before in
+    let s = p .before .before .before .before .before in
+    let a = s .args in
+    let frame = p .pin-frame .ensures ∙ ap (λ (k : ℕ). pinFrame k (a .frame)) (p .before .kind-of .ensures) in
+    let at-place = c .before .place-of .ensures ∙ (λ i. frame i * a .n + c .before .before .source-of .ensures i) in
+    ap (λ (x : ℕ). ltb x 2) (c .byte-at .ensures ∙ ap (at (now (a .known))) at-place)
+    ∙ ap (λ (b : Bool). b && known s) (sym (not-false (a .settled) (p .before .before .if1 .left)))
 
 pub source-keeps-spec : {M : Type 1} → statement M
 source-keeps-spec =

@@ -8,9 +8,6 @@ use Rattle.sweeps.specs.Inner.Work.{work}
 use Rattle.sweeps.proofs.CalmLaws.{calm-none}
 use Rattle.sweeps.proofs.sweep.sweep_once.Statement.{statement}
 use Rattle.sweeps.proofs.sweep.sweep_once.Tie as tie
-use Rattle.sweeps.proofs.sweep.sweep_once.Reads as reads
-use Rattle.sweeps.proofs.sweep.sweep_once.Lts as lts
-use Rattle.sweeps.proofs.sweep.sweep_window.Reads as sweep-window-reads
 
 slice-aggregate-sweep-window : tie.Need-slice-aggregate-sweep-window
 slice-aggregate-sweep-window c = search needs

@@ -1,11 +1,16 @@
+-- A relation that is not in force changes nothing (`relation-idle`). One in force tries the output's line first. Where the output is then
+-- unknown, nothing is concluded of a pin, and the output's line is the whole (`relation-output`). Else the pins follow, and both together
+-- are the definition's (`relation-pins`). What `try_pins` asks is known behind the output's line: the tally is the same, the steps are as
+-- many or more, and where there are no more the line would make none again (`settled-after`).
 use Prim.Native.Nat.{ℕ, suc, _+_, _*_, _≤_}
 use native.Mathlib.Omega.{arith}
+use mathlib.Core.Bool.{true}
 use mathlib.Core.Path.{_≡_, _∙_, ap, subst, sym}
 use denote.Ref.{now}
-use Rattle.netlist.specs.Netlist.{lengthOf, netOf}
+use Rattle.netlist.specs.Netlist.{Net, lengthOf, netOf}
 use Rattle.values.specs.Lists.{at}
-use Rattle.circuit.specs.Fault.{linesOf}
-use Rattle.knowledge.specs.Window.{presentBelow}
+use Rattle.circuit.specs.Fault.{StuckLines, linesOf}
+use Rattle.knowledge.specs.Window.{inForce, presentBelow}
 use Rattle.sweeps.specs.Sweeps.{rising, tryLine}
 use Rattle.sweeps.specs.Inner.Work.{Work, inBytes, tally, work}
 use borrow.Author.Tests.{not-false, not-true}
@@ -15,26 +20,50 @@ use Rattle.sweeps.proofs.WorkLaws.{line-tally, relation-idle, relation-
 use borrow.Author.Needs.{needs}
 use Rattle.sweeps.proofs.sweep.use_relation.Statement.{statement}
 use Rattle.sweeps.proofs.sweep.use_relation.Tie as tie
-use Rattle.sweeps.proofs.sweep.use_relation.Reads as reads
-use Rattle.sweeps.proofs.sweep.use_relation.Lts as lts
-use Rattle.knowledge.proofs.in_force.Reads as in-force-reads
-use Rattle.knowledge.proofs.place_of.Reads as place-of-reads
-use Rattle.values.proofs.byte_at.Reads as byte-at-reads
-use Rattle.sweeps.proofs.sweep.try_line.Reads as try-line-reads
-use Rattle.sweeps.proofs.sweep.try_pins.Reads as try-pins-reads
+
+-- where the function begins: the netlist, the lines present in each frame, the branch
+module _ (s : tie.Start) where
+  abbrev net : Net
+  net = netOf (now (s .args .netlist))
+
+  abbrev S : ℕ → StuckLines
+  S = presentBelow (s .args .c) (linesOf (s .args .fault))
+
+  abbrev w : Work
+  w = work (now (s .args .known)) (now (s .args .run)) (s .args .progress .steps) (s .args .progress .closed)
+
+-- behind the output's line
+module _ (d : tie.After-try-line) where
+  abbrev start : tie.Start
+  start = d .before .before .before .before .before .before .before .before
+
+  -- what the line has left
+  abbrev x : Work
+  x = let t = d .try-line in work (t .last .1 .1 .1 .1 .1 .1 .1 .0) (t .last .1 .1 .1 .1 .1 .1 .1 .1 .0) (t .result .steps) (t .result .closed)
+
+  is : x ≡ tryLine (inBytes (net start .size)) (net start) (S start) (start .args .node) (start .args .frame) 0 (w start)
+  is = d .try-line .ensures
+
+  in-force : inForce (net start) (S start) (start .args .node) (start .args .frame) ≡ true
+  in-force = sym (d .before .before .before .before .in-force .ensures) ∙ not-false _ (d .before .before .before .if1 .left)
+
+  -- the steps are as many or more, and the tally is the same
+  grows : start .args .progress .steps ≤ d .try-line .result .steps
+  grows = omega (arith, ap (λ (z : Work). z .steps) is, line-grows (net start) (S start) (start .args .node) (start .args .frame) 0 (w start))
+
+  same-tally : tally x ≡ tally (w start)
+  same-tally = ap tally is ∙ line-tally (net start) (S start) (start .args .node) (start .args .frame) 0 (w start)
 
 in-force-requires : tie.Need-in-force-requires
 in-force-requires c κs = search needs
 
 returns : tie.Need-returns
-returns c = let a = c .before .before .before .before .before .args in
-    let net = netOf (now (a .netlist)) in
-    let S = presentBelow (a .c) (linesOf (a .fault)) in
-    let w = work (now (a .known)) (now (a .run)) (a .progress .steps) (a .progress .closed) in
-    sym (relation-idle net S (a .node) (a .frame) w (sym (c .before .in-force .ensures) ∙ not-true _ (c .if1 .taken)))
+returns c =
+    let s = c .before .before .before .before .before in
+    sym (relation-idle (net s) (S s) (s .args .node) (s .args .frame) (w s) (sym (c .before .in-force .ensures) ∙ not-true _ (c .if1 .taken)))
 
 try-line-requires : tie.Need-try-line-requires
-try-line-requires c κs = (c .before .before .before .before .before .before .before .pre .0, c .before .before .before .before .before .before .before .pre .1)
+try-line-requires c κs = let s = c .before .before .before .before .before .before .before in (s .pre .0, s .pre .1)
 
 place-of-requires : tie.Need-place-of-requires
 place-of-requires c κs = search needs
@@ -49,49 +78,44 @@ same-length-2 : tie.Need-same-length-2
 same-length-2 c = c .before .before .before .before .before .before .before .before .try-line .kept .1 .1 .1 .1 .1 .1 .1 .1 .0
 
 returns-2 : tie.Need-returns-2
-returns-2 c = let a = c .before .before .before .before .before .before .before .before .before .before .before .before .before .before .before .before .args in
-    let net = netOf (now (a .netlist)) in
-    let S = presentBelow (a .c) (linesOf (a .fault)) in
-    let w = work (now (a .known)) (now (a .run)) (a .progress .steps) (a .progress .closed) in
-    let d = c .before .before .before .before .before .before .before .before .try-line in
-    let x = work (d .last .1 .1 .1 .1 .1 .1 .1 .0) (d .last .1 .1 .1 .1 .1 .1 .1 .1 .0) (d .result .steps) (d .result .closed) in
-    let place = c .before .before .place-of .ensures ∙ ap (λ (z : ℕ). a .frame * z + a .node) (c .before .before .before .before .before .before .before .before .before .before .before .before .before .before .before .before .pre .0) in
-    let h : 2 ≤ at (x .known) (a .frame * net .size + a .node) = subst (λ (z : ℕ). 2 ≤ z) (c .before .byte-at .ensures ∙ ap (at (x .known)) place) (c .if2 .taken) in
-    relation-output net S (a .node) (a .frame) w x (sym (c .before .before .before .before .before .before .before .before .before .before .before .before .in-force .ensures) ∙ not-false _ (c .before .before .before .before .before .before .before .before .before .before .before .if1 .left)) (d .ensures) h
+returns-2 c =
+    let d = c .before .before .before .before .before .before .before .before in
+    let s = start d in
+    let a = s .args in
+    let place = c .before .before .place-of .ensures ∙ ap (λ (z : ℕ). a .frame * z + a .node) (s .pre .0) in
+    let read = c .before .byte-at .ensures ∙ ap (at (x d .known)) place in
+    let h : 2 ≤ at (x d .known) (a .frame * net s .size + a .node) = subst (λ (z : ℕ). 2 ≤ z) read (c .if2 .taken) in
+    relation-output (net s) (S s) (a .node) (a .frame) (w s) (x d) (in-force d) (is d) h
 
 try-pins-requires : tie.Need-try-pins-requires
-try-pins-requires c κs = let a = c .before .before .before .before .before .before .before .before .before .before .before .before .before .before .before .before .before .before .args in
-    let net = netOf (now (a .netlist)) in
-    let S = presentBelow (a .c) (linesOf (a .fault)) in
-    let w = work (now (a .known)) (now (a .run)) (a .progress .steps) (a .progress .closed) in
-    let d = c .before .before .before .before .before .before .before .before .before .before .try-line in
-    let x = work (d .last .1 .1 .1 .1 .1 .1 .1 .0) (d .last .1 .1 .1 .1 .1 .1 .1 .1 .0) (d .result .steps) (d .result .closed) in
-    let e : tally x ≡ tally w = ap tally (d .ensures) ∙ line-tally net S (a .node) (a .frame) 0 w in
-    let q : x .steps ≡ tryLine (inBytes (net .size)) net S (a .node) (a .frame) 0 w .steps = ap (λ (z : Work). z .steps) (d .ensures) in (
-      c .before .before .before .before .before .before .before .before .before .before .before .before .before .before .before .before .before .before .pre .0,
-      (
-        omega (arith, e, c .before .before .before .before .before .before .before .before .before .before .before .before .before .before .before .before .before .before .pre .1),
-        (omega (arith, q, line-grows net S (a .node) (a .frame) 0 w), λ z. settled-after net S (a .node) (a .frame) w x (d .ensures) z),
-      ),
-    )
+try-pins-requires c κs =
+    let d = c .before .before .before .before .before .before .before .before .before .before in
+    let s = start d in
+    let settled = settled-after (net s) (S s) (s .args .node) (s .args .frame) (w s) (x d) (is d) in
+    (s .pre .0, (omega (arith, same-tally d, s .pre .1), (grows d, settled)))
 
 same-length-3 : tie.Need-same-length-3
-same-length-3 c = c .before .before .before .before .try-pins .kept .1 .1 .1 .1 .1 .1 .1 .0 ∙ c .before .before .before .before .before .before .before .before .before .before .before .before .before .before .before .try-line .kept .1 .1 .1 .1 .1 .1 .1 .0
+same-length-3 c =
+    let p = c .before .before .before .before .try-pins in
+    let d = c .before .before .before .before .before .before .before .before .before .before .before .before .before .before .before .try-line in
+    p .kept .1 .1 .1 .1 .1 .1 .1 .0 ∙ d .kept .1 .1 .1 .1 .1 .1 .1 .0
 
 same-length-4 : tie.Need-same-length-4
-same-length-4 c = c .before .before .before .before .try-pins .kept .1 .1 .1 .1 .1 .1 .1 .1 .0 ∙ c .before .before .before .before .before .before .before .before .before .before .before .before .before .before .before .try-line .kept .1 .1 .1 .1 .1 .1 .1 .1 .0
+same-length-4 c =
+    let p = c .before .before .before .before .try-pins in
+    let d = c .before .before .before .before .before .before .before .before .before .before .before .before .before .before .before .try-line in
+    p .kept .1 .1 .1 .1 .1 .1 .1 .1 .0 ∙ d .kept .1 .1 .1 .1 .1 .1 .1 .1 .0
 
 returns-3 : tie.Need-returns-3
-returns-3 c = let a = c .before .before .before .before .before .before .before .before .before .before .before .before .before .before .before .before .before .before .before .before .before .before .before .args in
-    let net = netOf (now (a .netlist)) in
-    let S = presentBelow (a .c) (linesOf (a .fault)) in
-    let w = work (now (a .known)) (now (a .run)) (a .progress .steps) (a .progress .closed) in
-    let d = c .before .before .before .before .before .before .before .before .before .before .before .before .before .before .before .try-line in
-    let x = work (d .last .1 .1 .1 .1 .1 .1 .1 .0) (d .last .1 .1 .1 .1 .1 .1 .1 .1 .0) (d .result .steps) (d .result .closed) in
+returns-3 c =
+    let d = c .before .before .before .before .before .before .before .before .before .before .before .before .before .before .before in
+    let s = start d in
+    let a = s .args in
     let m = lengthOf (now (a .netlist)) (a .node) in
+    let pins : (Work → Work) = rising (λ (i : ℕ). tryLine (inBytes (net s .size)) (net s) (S s) (a .node) (a .frame) (suc i)) m in
     c .before .before .before .before .try-pins .ensures
-    ∙ ap (rising (λ (i : ℕ). tryLine (inBytes (net .size)) net S (a .node) (a .frame) (suc i)) m) (d .ensures)
-    ∙ relation-pins net S (a .node) (a .frame) m w (sym (c .before .before .before .before .before .before .before .before .before .before .before .before .before .before .before .before .before .before .before .in-force .ensures) ∙ not-false _ (c .before .before .before .before .before .before .before .before .before .before .before .before .before .before .before .before .before .before .if1 .left)) (sym (pins-length (now (a .netlist)) (a .node)))
+    ∙ ap pins (is d)
+    ∙ relation-pins (net s) (S s) (a .node) (a .frame) m (w s) (in-force d) (sym (pins-length (now (a .netlist)) (a .node)))
 
 pub use-relation-spec : {M : Type 1} → statement M
 use-relation-spec =

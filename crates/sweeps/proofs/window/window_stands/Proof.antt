@@ -1,17 +1,44 @@
+-- The definition's tests in order. Each is a lemma at the place behind it, which says that it holds there; at a way out the definition is
+-- opened, the tests that have passed are put in, and then the one that fails. The number of nodes is read from the netlist (`size`).
 use borrow.Author.Tests.{eq-eqb, le-leb, le-ltb, lt-leb, lt-ltb, ne-eqb, not-false, not-true}
 use native.Mathlib.Nat.{mul-le-mul}
 use native.Mathlib.Omega.{arith}
 use Rattle.netlist.specs.Netlist.{netOf}
+use Rattle.circuit.specs.Fault.{faultExists}
+use Rattle.knowledge.specs.Window.{mostFrames}
 use Rattle.sweeps.specs.Inner.Trials.{windowStands}
+use mathlib.Core.Bool.{true}
+use mathlib.Core.Path.{_≡_, _∙_, sym}
+use Prim.Native.Nat.{_+_, _*_}
+use lib.Dec.{eqb, leb, ltb}
+use denote.Ref.{now}
 use borrow.Author.Needs.{needs}
 use Rattle.sweeps.proofs.window.window_stands.Statement.{statement}
 use Rattle.sweeps.proofs.window.window_stands.Tie as tie
-use Rattle.sweeps.proofs.window.window_stands.Reads as reads
-use Rattle.sweeps.proofs.window.window_stands.Lts as lts
-use Rattle.circuit.proofs.fault_exists.Reads as fault-exists-reads
-use Rattle.netlist.proofs.node_count.Reads as node-count-reads
-use Rattle.netlist.proofs.read.Reads as read-reads
-use Rattle.netlist.proofs.refusal_number.Reads as refusal-number-reads
+
+-- what each test has shown once it is passed
+short : (e : tie.Else1) → let a = e .before .before .before .args in leb (a .split .c + a .f + 1) mostFrames ≡ true
+short e = le-leb _ _ (e .if1 .left)
+
+in-frames : (e : tie.Else2) → let a = e .before .before .before .before .before .args in ltb (a .split .frame) (a .split .c + a .f + 1) ≡ true
+in-frames e = lt-ltb _ _ (e .if2 .left)
+
+size : (n : tie.After-node-count) → n .node-count .result ≡ netOf (now (n .before .before .before .before .before .before .args .netlist)) .size
+unfolding netOf
+size n = n .node-count .ensures
+
+is-node : (e : tie.Else3) → let a = e .before .before .before .before .before .before .before .before .args in ltb (a .split .node) (netOf (now (a .netlist)) .size) ≡ true
+is-node e = rw (← size (e .before .before)) (lt-ltb _ _ (e .if3 .left))
+
+all-places : (e : tie.Else4)
+    → let a = e .before .before .before .before .before .before .before .before .before .args in
+    eqb (a .places) (netOf (now (a .netlist)) .size * (a .split .c + a .f + 1)) ≡ true
+all-places e = rw (← size (e .before .before .before)) (eq-eqb _ _ (e .if4 .left))
+
+exists : (e : tie.Else5)
+    → let a = e .before .before .before .before .before .before .before .before .before .before .before .args in
+    faultExists (netOf (now (a .netlist))) (a .fault) ≡ true
+exists e = sym (e .before .fault-exists .ensures) ∙ not-false _ (e .if5 .left)
 
 cast-w : tie.Need-cast-w
 cast-w c = search needs
@@ -31,14 +58,16 @@ cast-if2 c = search needs
 
 returns-2 : tie.Need-returns-2
 unfolding windowStands
-returns-2 c = rw (le-leb _ _ (c .before .before .if1 .left), le-ltb _ _ (c .if2 .taken))
+returns-2 c = rw (short (c .before .before), le-ltb _ _ (c .if2 .taken))
 
 node-count-requires : tie.Need-node-count-requires
 node-count-requires c κs = search needs
 
 returns-3 : tie.Need-returns-3
-unfolding windowStands netOf
-returns-3 c = rw (le-leb _ _ (c .before .before .before .before .before .if1 .left), lt-ltb _ _ (c .before .before .before .if2 .left), ← c .before .before .node-count .ensures, le-ltb _ _ (c .if3 .taken))
+unfolding windowStands
+returns-3 c =
+    let e = c .before .before .before in
+    rw (short (e .before .before), in-frames e, ← size (c .before .before), le-ltb _ _ (c .if3 .taken))
 
 cast-if4 : tie.Need-cast-if4
 cast-if4 c = search needs
@@ -52,24 +81,21 @@ mul-if4 c =
     omega (arith, m)
 
 returns-4 : tie.Need-returns-4
-unfolding windowStands netOf
-returns-4 c = rw (le-leb _ _ (c .before .before .before .before .before .before .if1 .left), lt-ltb _ _ (c .before .before .before .before .if2 .left), ← c .before .before .before .node-count .ensures, lt-ltb _ _ (c .before .if3 .left), ne-eqb _ _ (c .if4 .taken))
+unfolding windowStands
+returns-4 c =
+    let e = c .before .before .before .before in
+    rw (short (e .before .before), in-frames e, is-node (c .before), ← size (c .before .before .before), ne-eqb _ _ (c .if4 .taken))
 
 fault-exists-requires : tie.Need-fault-exists-requires
 fault-exists-requires c κs = search needs
 
 returns-5 : tie.Need-returns-5
-unfolding windowStands netOf
+unfolding windowStands
 returns-5 c =
-    rw (
-      ← c .before .fault-exists .ensures,
-      not-true (c .before .fault-exists .result) (c .if5 .taken),
-      le-leb _ _ (c .before .before .before .before .before .before .before .before .if1 .left),
-      lt-ltb _ _ (c .before .before .before .before .before .before .if2 .left),
-      ← c .before .before .before .before .before .node-count .ensures,
-      lt-ltb _ _ (c .before .before .before .if3 .left),
-      eq-eqb _ _ (c .before .before .if4 .left),
-    )
+    let f = c .before .fault-exists in
+    let p = c .before .before in
+    let e = p .before .before .before .before in
+    rw (short (e .before .before), in-frames e, is-node (p .before), all-places p, ← f .ensures, not-true (f .result) (c .if5 .taken))
 
 read-requires : tie.Need-read-requires
 read-requires c κs = search needs
@@ -78,18 +104,19 @@ refusal-number-requires : tie.Need-refusal-number-requires
 refusal-number-requires c κs = search needs
 
 returns-6 : tie.Need-returns-6
-unfolding windowStands netOf
+unfolding windowStands
 returns-6 c =
+    let x = c .before .before in
+    let p = x .before .before in
+    let e = p .before .before .before .before in
     rw (
-      ← c .before .before .before .fault-exists .ensures,
-      not-false (c .before .before .before .fault-exists .result) (c .before .before .if5 .left),
+      short (e .before .before),
+      in-frames e,
+      is-node (p .before),
+      all-places p,
+      exists x,
       ← c .before .read .ensures,
       ← c .refusal-number .ensures,
-      le-leb _ _ (c .before .before .before .before .before .before .before .before .before .before .if1 .left),
-      lt-ltb _ _ (c .before .before .before .before .before .before .before .before .if2 .left),
-      ← c .before .before .before .before .before .before .before .node-count .ensures,
-      lt-ltb _ _ (c .before .before .before .before .before .if3 .left),
-      eq-eqb _ _ (c .before .before .before .before .if4 .left),
     )
 
 pub window-stands-spec : {M : Type 1} → statement M

@@ -1,10 +1,16 @@
+-- Both branches write their runs into parts of the certificate's slice: branch 0 behind the head (`first-run`), branch 1 behind branch
+-- 0 (`second-run`). With the head in front these bytes are the certificate of the definition (`certificate-written`). A branch has at
+-- most as many steps as the window has places, which are few (`few`): so there is room for both runs, and the counts fit their numbers.
 use Prim.Native.Nat.{ℕ, _+_, _-_, _*_, _≤_}
 use Rattle.certificate.specs.Certificate.{headLength}
 use Rattle.certificate.specs.Written.{headBytes, runBytes}
-use Rattle.netlist.specs.Netlist.{netOf}
+use Rattle.netlist.specs.Netlist.{mostNodes, netOf, pinCount}
 use Rattle.sweeps.specs.Splits.{branchOf, headFor, stepCount}
 use Rattle.sweeps.proofs.PartLaws.{certificate-written}
-use Rattle.sweeps.proofs.WindowSize.{few-places}
+use Rattle.sweeps.proofs.StandsLaws.{window-few}
+use Rattle.netlist.proofs.SoundLaws.{sound-size}
+use Rattle.knowledge.specs.Window.{mostFrames}
+use Rattle.certificate.specs.declared.step.Step.{Step}
 use Rattle.values.proofs.SetsLaws.{sets-in-part}
 use borrow.Rule.Slice.PartMut.{putMid}
 use lib.Seq.{length-sets, sets}
@@ -16,11 +22,63 @@ use native.Mathlib.Omega.{arith}
 use borrow.Author.Needs.{needs}
 use Rattle.sweeps.proofs.write.write_branches.Statement.{statement}
 use Rattle.sweeps.proofs.write.write_branches.Tie as tie
-use Rattle.sweeps.proofs.write.write_branches.Reads as reads
-use Rattle.sweeps.proofs.write.write_branches.Lts as lts
-use Rattle.certificate.proofs.write_head.Reads as write-head-reads
-use Rattle.sweeps.proofs.branch.work_branch.Reads as work-branch-reads
-use Rattle.sweeps.proofs.write.head_for.Reads as head-for-reads
+
+-- where the function begins: how many places there are, and the runs of the two branches
+module _ (s : tie.Start) where
+  abbrev certificate : List ℕ
+  certificate = now (s .args .certificate)
+
+  abbrev places : ℕ
+  places = s .args .n * (s .args .split .c + s .args .f + 1)
+
+  few : places ≤ mostNodes * mostFrames
+  few =
+      let bytes = now (s .args .netlist) in
+      let W = s .args .split .c + s .args .f + 1 in
+      let size = sound-size bytes (s .args .n) (pinCount bytes) (s .pre .0 .0) in
+      rw size (window-few bytes (s .args .n) (pinCount bytes) W (s .pre .0 .0) (s .pre .1 .0 .0))
+
+  abbrev steps : ℕ → List Step
+  steps v = branchOf (netOf (now (s .args .netlist))) (s .args .fault) (s .args .f) (s .args .split) v .steps
+
+-- behind both branches
+module _ (o : tie.After-work-branch2) where
+  abbrev zero : tie.After-work-branch
+  zero = o .before .before .before .before .before .before .before
+
+  abbrev start : tie.Start
+  start = zero .before .before .before .before .before .before
+
+  zero-count : 7 * zero .work-branch .result .steps ≡ 7 * length (steps start 0)
+  zero-count = ap (λ (x : ℕ). 7 * x) (zero .work-branch .ensures .0 .1)
+
+  one-count : 7 * o .work-branch2 .result .steps ≡ 7 * length (steps start 1)
+  one-count = ap (λ (x : ℕ). 7 * x) (o .work-branch2 .ensures .0 .1)
+
+  both-few : zero .work-branch .result .steps + o .work-branch2 .result .steps ≤ 2 * places start
+  both-few = omega (arith, zero .work-branch .ensures .1 .1, o .work-branch2 .ensures .1 .1)
+
+  room : headLength + (7 * length (steps start 0) + 7 * length (steps start 1)) ≤ length (certificate start)
+  room = omega (arith, start .pre .1 .1 .1, both-few, zero-count, one-count)
+
+  -- branch 0's run is written behind the head, and branch 1's behind that
+  abbrev first : List ℕ
+  first = putMid headLength (length (certificate start) - headLength) (certificate start) (zero .work-branch .last .1 .1 .1 .1 .1 .1 .1 .0)
+
+  first-run : first ≡ sets (certificate start) headLength (runBytes (steps start 0))
+  first-run =
+      let l = certificate start in
+      ap (putMid headLength (length l - headLength) l) (zero .work-branch .ensures .0 .2)
+      ∙ sets-in-part (runBytes (steps start 0)) l headLength (omega (arith, room))
+
+  abbrev behind : ℕ
+  behind = headLength + 7 * zero .work-branch .result .steps
+
+  second-run : putMid behind (length first - behind) first (o .work-branch2 .last .1 .1 .1 .1 .1 .1 .1 .0) ≡ sets first behind (runBytes (steps start 1))
+  second-run =
+      let same = ap (λ (x : List ℕ). length x) first-run in
+      let m : behind ≤ length first = omega (arith, same, length-sets (certificate start) headLength (runBytes (steps start 0)), room, zero-count) in
+      ap (putMid behind (length first - behind) first) (o .work-branch2 .ensures .0 .2) ∙ sets-in-part (runBytes (steps start 1)) first behind m
 
 sub-work-branch : tie.Need-sub-work-branch
 sub-work-branch c = search needs
@@ -32,7 +90,8 @@ part-work-branch-end : tie.Need-part-work-branch-end
 part-work-branch-end c = search needs
 
 work-branch-requires : tie.Need-work-branch-requires
-work-branch-requires c κs = let p = c .before .before .before .before .before .pre in
+work-branch-requires c κs =
+    let p = c .before .before .before .before .before .pre in
     (p .0 .0, (p .0 .1, ((p .1 .0 .0, p .1 .0 .1, p .1 .0 .2, omega arith), p .1 .1 .0)))
 
 mul-work-branch : tie.Need-mul-work-branch
@@ -62,18 +121,12 @@ head-for-requires c κs = search needs
 cast-write-head : tie.Need-cast-write-head
 cast-write-head c =
     let o = c .before .before .before .before .before .before .before in
-    let z = o .before .before .before .before .before .before .before in
-    let s = z .before .before .before .before .before .before in
-    let m = few-places (now (s .args .netlist)) (s .args .n) (s .args .split .c + s .args .f + 1) (s .pre .0 .0) (s .pre .1 .0 .0) in
-    omega (arith, m, z .work-branch .ensures .1 .1)
+    omega (arith, few (start o), zero o .work-branch .ensures .1 .1)
 
 cast-write-head-2 : tie.Need-cast-write-head-2
 cast-write-head-2 c =
     let o = c .before .before .before .before .before .before .before .before in
-    let z = o .before .before .before .before .before .before .before in
-    let s = z .before .before .before .before .before .before in
-    let m = few-places (now (s .args .netlist)) (s .args .n) (s .args .split .c + s .args .f + 1) (s .pre .0 .0) (s .pre .1 .0 .0) in
-    omega (arith, m, o .work-branch2 .ensures .1 .1)
+    omega (arith, few (start o), o .work-branch2 .ensures .1 .1)
 
 write-head-requires : tie.Need-write-head-requires
 write-head-requires c κs = search needs
@@ -81,18 +134,12 @@ write-head-requires c κs = search needs
 add-result : tie.Need-add-result
 add-result c =
     let o = c .before .before .before .before .before .before .before .before .before .before .before .before .before in
-    let z = o .before .before .before .before .before .before .before in
-    let s = z .before .before .before .before .before .before in
-    let m = few-places (now (s .args .netlist)) (s .args .n) (s .args .split .c + s .args .f + 1) (s .pre .0 .0) (s .pre .1 .0 .0) in
-    omega (arith, m, z .work-branch .ensures .1 .1, o .work-branch2 .ensures .1 .1)
+    omega (arith, few (start o), both-few o)
 
 cast-result : tie.Need-cast-result
 cast-result c =
     let o = c .before .before .before .before .before .before .before .before .before .before .before .before .before in
-    let z = o .before .before .before .before .before .before .before in
-    let s = z .before .before .before .before .before .before in
-    let m = few-places (now (s .args .netlist)) (s .args .n) (s .args .split .c + s .args .f + 1) (s .pre .0 .0) (s .pre .1 .0 .0) in
-    omega (arith, m, z .work-branch .ensures .1 .1, o .work-branch2 .ensures .1 .1)
+    omega (arith, few (start o), both-few o)
 
 same-length : tie.Need-same-length
 same-length c = search needs
@@ -103,33 +150,20 @@ same-length-2 c = search needs
 returns : tie.Need-returns
 unfolding stepCount
 returns c =
-    let h = c .before .before .before .before in
-    let d = h .before .before .before .before in
-    let o = d .before .before .before .before .before .work-branch2 in
-    let z = d .before .before .before .before .before .before .before .before .before .before .before .before .work-branch in
-    let s = d .before .before .before .before .before .before .before .before .before .before .before .before .before .before .before .before .before .before in
+    let d = c .before .before .before .before .before .before .before .before in
+    let o = d .before .before .before .before .before in
+    let s = start o in
     let a = s .args in
-    let net = netOf (now (a .netlist)) in
-    let l = now (a .certificate) in
-    let r₀ = branchOf net (a .fault) (a .f) (a .split) 0 .steps in
-    let r₁ = branchOf net (a .fault) (a .f) (a .split) 1 .steps in
-    let k₀ : 7 * z .result .steps ≡ 7 * length r₀ = ap (λ (x : ℕ). 7 * x) (z .ensures .0 .1) in
-    let k₁ : 7 * o .result .steps ≡ 7 * length r₁ = ap (λ (x : ℕ). 7 * x) (o .ensures .0 .1) in
-    let g : headLength + (7 * length r₀ + 7 * length r₁) ≤ length l = omega (arith, s .pre .1 .1 .1, z .ensures .1 .1, o .ensures .1 .1) in
-    let l₁ = putMid headLength (length l - headLength) l (z .last .1 .1 .1 .1 .1 .1 .1 .0) in
-    let e₁ : l₁ ≡ sets l headLength (runBytes r₀) =
-    ap (putMid headLength (length l - headLength) l) (z .ensures .0 .2) ∙ sets-in-part (runBytes r₀) l headLength (omega arith) in
-    let q = headLength + 7 * z .result .steps in
-    let m : q ≤ length l₁ = omega (arith, ap (λ (x : List ℕ). length x) e₁, length-sets l headLength (runBytes r₀)) in
-    let e₂ : putMid q (length l₁ - q) l₁ (o .last .1 .1 .1 .1 .1 .1 .1 .0) ≡ sets l₁ q (runBytes r₁) =
-    ap (putMid q (length l₁ - q) l₁) (o .ensures .0 .2) ∙ sets-in-part (runBytes r₁) l₁ q m in (
-      λ i. z .ensures .0 .1 i + o .ensures .0 .1 i,
+    let head = headFor (a .fault) (a .f) (a .split) in
+    let k₀ = 7 * length (steps s 0) in
+    let k₁ = 7 * length (steps s 1) in (
+      λ i. zero o .work-branch .ensures .0 .1 i + o .work-branch2 .ensures .0 .1 i,
       (
-        omega (arith, z .ensures .1 .1, o .ensures .1 .1),
-        h .write-head .ensures
-            ∙ (λ i. sets (e₂ i) 0 (headBytes (d .head-for .ensures i) (k₀ i) (k₁ i)))
-            ∙ (λ i. sets (sets (e₁ i) (headLength + k₀ i) (runBytes r₁)) 0 (headBytes (headFor (a .fault) (a .f) (a .split)) (7 * length r₀) (7 * length r₁)))
-            ∙ certificate-written net (a .fault) (a .f) (a .split) l g,
+        both-few o,
+        c .before .before .before .before .write-head .ensures
+            ∙ (λ i. sets (second-run o i) 0 (headBytes (d .head-for .ensures i) (zero-count o i) (one-count o i)))
+            ∙ (λ i. sets (sets (first-run o i) (headLength + zero-count o i) (runBytes (steps s 1))) 0 (headBytes head k₀ k₁))
+            ∙ certificate-written (netOf (now (a .netlist))) (a .fault) (a .f) (a .split) (certificate s) (room o),
       ),
     )
 

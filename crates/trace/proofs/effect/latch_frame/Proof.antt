@@ -1,4 +1,4 @@
-use Rattle.trace.specs.Trace.{latchedMarks}
+use Rattle.trace.specs.Trace.{latchedTouchedList}
 use Prim.Native.Nat.{ℕ}
 use mathlib.Core.Path.{_∙_, ap}
 use lib.ListN.{drop, take}
@@ -10,11 +10,6 @@ use Rattle.knowledge.proofs.WindowLaws.{frame-values}
 use borrow.Author.Needs.{needs}
 use Rattle.trace.proofs.effect.latch_frame.Statement.{statement}
 use Rattle.trace.proofs.effect.latch_frame.Tie as tie
-use Rattle.trace.proofs.effect.latch_frame.Reads as reads
-use Rattle.trace.proofs.effect.latch_frame.Lts as lts
-use Rattle.trace.proofs.effect.latch_marks.Reads as latch-marks-reads
-use Rattle.knowledge.proofs.place_of.Reads as place-of-reads
-use Rattle.values.proofs.tail.Reads as tail-reads
 
 place-of-requires : tie.Need-place-of-requires
 place-of-requires c κs = search needs
@@ -22,21 +17,24 @@ place-of-requires c κs = search needs
 tail-requires : tie.Need-tail-requires
 tail-requires c κs = search needs
 
-latch-marks-requires : tie.Need-latch-marks-requires
-latch-marks-requires c κs = search needs
+latch-touched-requires : tie.Need-latch-touched-requires
+latch-touched-requires c κs = search needs
 
 same-length : tie.Need-same-length
 same-length c = search needs
 
 returns : tie.Need-returns
-returns c = let a = c .before .before .before .before .before .before .before .before .before .args in
+returns c =
+    let t = c .before .before .before .before in
+    let s = t .before .before .before .before .before in
+    let a = s .args in
     let net = netOf (now (a .netlist)) in
     let D = linesIn (a .circuit) in
-    let l = now (a .marks) in
-    let size = c .before .before .before .before .before .before .before .before .before .pre .0 in
-    let kn = frame-values (now (a .known)) (now (c .before .before .before .before .tail .result)) (a .n) (net .size) (a .frame) (c .before .before .before .before .tail .ensures ∙ ap (λ (k : ℕ). drop k (now (a .known))) (c .before .before .before .before .before .place-of .ensures)) size in
-    c .before .before .latch-marks .ensures ∙ ap (λ (w : ℕ → ℕ). latchedMarks net D w (at (take (a .n) l))) kn
+    let l = now (a .touched) in
+    let from = t .tail .ensures ∙ ap (λ (k : ℕ). drop k (now (a .known))) (t .before .place-of .ensures) in
+    let kn = frame-values (now (a .known)) (now (t .tail .result)) (a .n) (net .size) (a .frame) from (s .pre .0) in
+    c .before .before .latch-touched .ensures ∙ ap (λ (w : ℕ → ℕ). latchedTouchedList net D w (at (take (a .n) l))) kn
 
 pub latch-frame-spec : {M : Type 1} → statement M
 latch-frame-spec =
-    tie.close (tie.spec place-of-requires tail-requires latch-marks-requires same-length returns)
+    tie.close (tie.spec place-of-requires tail-requires latch-touched-requires same-length returns)

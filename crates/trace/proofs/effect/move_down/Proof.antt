@@ -10,16 +10,16 @@ use native.Mathlib.Omega.{arith}
 use denote.Ref.{now}
 use Rattle.trace.proofs.effect.move_down.Statement.{statement}
 use Rattle.trace.proofs.effect.move_down.Tie as tie
-use Rattle.trace.proofs.effect.move_down.Reads as reads
-use Rattle.trace.proofs.effect.move_down.Lts as lts
-use Rattle.values.proofs.byte_at.Reads as byte-at-reads
-use Rattle.values.proofs.store.Reads as store-reads
 
 abbrev Inv-loop : tie.InvT-loop
-Inv-loop n marks₀ node₀ marks node = (node ≤ n) × (length marks ≡ length marks₀) × Filled (λ j. at marks₀ (n + j)) 0 node marks × ((j : ℕ) → n ≤ j → at marks j ≡ at marks₀ j)
+Inv-loop n touched₀ node₀ touched node =
+    (node ≤ n)
+    × (length touched ≡ length touched₀)
+    × Filled (λ j. at touched₀ (n + j)) 0 node touched
+    × ((j : ℕ) → n ≤ j → at touched j ≡ at touched₀ j)
 
 abbrev μ-loop : tie.MeasureT-loop
-μ-loop n marks₀ node₀ marks node = n - node
+μ-loop n touched₀ node₀ touched node = n - node
 
 loop-holds : tie.Need-loop-holds Inv-loop μ-loop
 loop-holds c = (omega arith, refl, (λ j h. absurd (omega arith)), λ j h. refl)
@@ -46,29 +46,38 @@ loop-less : tie.Need-loop-less Inv-loop μ-loop
 loop-less c = omega arith
 
 loop-again : tie.Need-loop-again Inv-loop μ-loop
-loop-again c = let a = c .before .before .before .before .before .before .before .before .before .args in
-    let d = now (a .marks) in
-    let l = c .before .before .before .before .before .before .before .loop in
+loop-again c =
     let st = c .before .before .store in
-    let v = c .before .before .before .before .byte-at .result in
-    let h : l .node < length (l .marks) = omega (arith, c .before .before .before .before .before .before .before .before .before .pre, l .inv .1, c .before .before .before .before .before .before .loop-test .taken) in
-    let e : v ≡ at d (a .n + l .node) = c .before .before .before .before .byte-at .ensures ∙ l .inv .3 (a .n + l .node) (omega arith) in (
+    let call = c .before .before .before .before in
+    let test = call .before .before in
+    let l = test .before .loop in
+    let s = test .before .before .before in
+    let a = s .args in
+    let d = now (a .touched) in
+    let second : ℕ → ℕ = λ j. at d (a .n + j) in
+    let v = call .byte-at .result in
+    let h : l .node < length (l .touched) = omega (arith, s .pre, l .inv .1, test .loop-test .taken) in
+    let e : v ≡ second (l .node) = call .byte-at .ensures ∙ l .inv .3 (a .n + l .node) (omega arith) in
+    let more = filled-more second 0 (l .node) v (l .touched) (rw zero-add h) e (l .inv .2) in
+    let other : ((j : ℕ) → a .n ≤ j → j ≡ l .node → ⊥) = λ j q z. omega (arith, q, z, test .loop-test .taken) in (
       omega arith,
       rw (st .ensures) (simp length-set (l .inv .1)),
-      rw (st .ensures) (subst (λ (k : ℕ). Filled (λ j. at d (a .n + j)) 0 (l .node + 1) (set (l .marks) k v)) (zero-add (l .node)) (filled-more (λ j. at d (a .n + j)) 0 (l .node) v (l .marks) (rw zero-add h) e (l .inv .2))),
-      λ j q. let z : (j ≡ l .node → ⊥) = omega (arith, q, c .before .before .before .before .before .before .loop-test .taken) in rw (st .ensures) (getD-set-other (l .marks) (l .node) j v 0 z ∙ l .inv .3 j q),
+      rw (st .ensures) (subst (λ (k : ℕ). Filled second 0 (l .node + 1) (set (l .touched) k v)) (zero-add (l .node)) more),
+      λ j q. rw (st .ensures) (getD-set-other (l .touched) (l .node) j v 0 (other j q) ∙ l .inv .3 j q),
     )
 
 same-length : tie.Need-same-length Inv-loop μ-loop
 same-length c = c .before .loop .inv .1
 
 returns : tie.Need-returns Inv-loop μ-loop
-returns c = let a = c .before .before .before .args in
-    let d = now (a .marks) in
+returns c =
     let l = c .before .loop in
+    let s = c .before .before .before in
+    let a = s .args in
+    let d = now (a .touched) in
     let z : l .node ≡ a .n = omega arith in
-    take-same (a .n) (l .marks) (drop (a .n) d) (omega (arith, c .before .before .before .pre, l .inv .1)) (simp length-drop (omega (arith, c .before .before .before .pre)))
-    (λ j q. ap (at (l .marks)) (sym (zero-add j)) ∙ l .inv .2 j (omega (arith, z, q)) ∙ sym (getD-drop (a .n) d j 0))
+    take-same (a .n) (l .touched) (drop (a .n) d) (omega (arith, s .pre, l .inv .1)) (simp length-drop (omega (arith, s .pre)))
+    (λ j q. ap (at (l .touched)) (sym (zero-add j)) ∙ l .inv .2 j (omega (arith, z, q)) ∙ sym (getD-drop (a .n) d j 0))
 
 pub move-down-spec : {M : Type 1} → statement M
 move-down-spec =

@@ -3,10 +3,6 @@ use Rattle.netlist.specs.Netlist.{netOf}
 use borrow.Author.Needs.{needs}
 use Rattle.trace.proofs.effect.output_untouched.Statement.{statement}
 use Rattle.trace.proofs.effect.output_untouched.Tie as tie
-use Rattle.trace.proofs.effect.output_untouched.Reads as reads
-use Rattle.trace.proofs.effect.output_untouched.Lts as lts
-use Rattle.values.proofs.byte_at.Reads as byte-at-reads
-use Rattle.netlist.proofs.kind_of.Reads as kind-of-reads
 
 kind-of-requires : tie.Need-kind-of-requires
 kind-of-requires c κs = search needs

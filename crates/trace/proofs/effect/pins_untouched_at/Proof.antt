@@ -1,4 +1,4 @@
-use Rattle.trace.specs.Trace.{latchedMarks, latchedUntouched}
+use Rattle.trace.specs.Trace.{latchedTouchedList, latchedUntouched}
 use Prim.Native.Nat.{ℕ}
 use mathlib.Core.Path.{_∙_, ap}
 use lib.ListN.{drop, take}
@@ -10,11 +10,6 @@ use Rattle.knowledge.proofs.WindowLaws.{frame-values}
 use borrow.Author.Needs.{needs}
 use Rattle.trace.proofs.effect.pins_untouched_at.Statement.{statement}
 use Rattle.trace.proofs.effect.pins_untouched_at.Tie as tie
-use Rattle.trace.proofs.effect.pins_untouched_at.Reads as reads
-use Rattle.trace.proofs.effect.pins_untouched_at.Lts as lts
-use Rattle.trace.proofs.effect.pins_untouched.Reads as pins-untouched-reads
-use Rattle.knowledge.proofs.place_of.Reads as place-of-reads
-use Rattle.values.proofs.tail.Reads as tail-reads
 
 place-of-requires : tie.Need-place-of-requires
 place-of-requires c κs = search needs
@@ -26,13 +21,16 @@ pins-untouched-requires : tie.Need-pins-untouched-requires
 pins-untouched-requires c κs = search needs
 
 returns : tie.Need-returns
-returns c = let a = c .before .before .before .before .before .before .args in
+returns c =
+    let t = c .before in
+    let s = t .before .before .before .before .before in
+    let a = s .args in
     let net = netOf (now (a .netlist)) in
     let D = linesIn (a .circuit) in
-    let l = now (a .marks) in
-    let size = c .before .before .before .before .before .before .pre in
-    let kn = frame-values (now (a .known)) (now (c .before .tail .result)) (a .n) (net .size) (a .frame) (c .before .tail .ensures ∙ ap (λ (k : ℕ). drop k (now (a .known))) (c .before .before .place-of .ensures)) size in
-    c .pins-untouched .ensures ∙ (λ i. every (latchedUntouched (latchedMarks net D (kn i) (at (take (a .n) l)))) (size i))
+    let l = now (a .touched) in
+    let from = t .tail .ensures ∙ ap (λ (k : ℕ). drop k (now (a .known))) (t .before .place-of .ensures) in
+    let kn = frame-values (now (a .known)) (now (t .tail .result)) (a .n) (net .size) (a .frame) from (s .pre) in
+    c .pins-untouched .ensures ∙ (λ i. every (latchedUntouched (latchedTouchedList net D (kn i) (at (take (a .n) l)))) (s .pre i))
 
 pub pins-untouched-at-spec : {M : Type 1} → statement M
 pins-untouched-at-spec =

@@ -1,11 +1,14 @@
+-- The loop comes down from the last pin. Its invariant: none of the pins from `pin` on is touched. A pin that is touched ends it, since
+-- one is enough (`some-at`); one that is not is one more in front (`some-more`). At pin 0 that is said of all of them.
 use mathlib.Core.Bool.{false}
-use Rattle.trace.specs.Trace.{pinMark, someMark}
-use Rattle.trace.proofs.MarkLaws.{some-at, some-none, some-more}
+use Rattle.trace.specs.Trace.{pinTouched, pinsTouched, someTouched}
+use Rattle.trace.proofs.TouchedLaws.{some-at, some-none, some-more}
 use borrow.Author.Needs.{needs}
-use Prim.Native.Nat.{_≤_, _<_, _-_}
+use Prim.Native.Nat.{ℕ, _≤_, _<_, _-_}
+use mathlib.Core.List.{List}
 use native.Mathlib.Omega.{arith}
 use mathlib.Core.Path.{_≡_, _∙_, sym}
-use lib.ListN.{drop, take}
+use lib.ListN.{drop, length, take}
 use denote.Ref.{now}
 use Rattle.netlist.specs.Netlist.{lengthOf, netOf}
 use Rattle.values.specs.Lists.{at, indexed}
@@ -13,61 +16,77 @@ use Rattle.circuit.specs.Fault.{linesIn}
 use Rattle.simulator.proofs.PinLaws.{length-by-pin, by-pin-at}
 use Rattle.trace.proofs.effect.some_pin_touched.Statement.{statement}
 use Rattle.trace.proofs.effect.some_pin_touched.Tie as tie
-use Rattle.trace.proofs.effect.some_pin_touched.Reads as reads
-use Rattle.trace.proofs.effect.some_pin_touched.Lts as lts
-use Rattle.trace.proofs.effect.pin_mark.Reads as pin-mark-reads
-use Rattle.netlist.proofs.length_of.Reads as length-of-reads
 
 abbrev Inv-loop : tie.InvT-loop
-Inv-loop netlist circuit values marks limit node pin₀ pin = (pin ≤ lengthOf netlist node) × (someMark (drop pin (indexed (pinMark (netOf netlist) (linesIn circuit) (at values) (at (take limit marks)) node) 0 (netOf netlist .pins node))) ≡ false)
+Inv-loop netlist circuit values touched limit node pin₀ pin =
+    (pin ≤ lengthOf netlist node)
+    × (someTouched (drop pin (pinsTouched (netOf netlist) (linesIn circuit) (at values) (at (take limit touched)) node)) ≡ false)
 
 abbrev μ-loop : tie.MeasureT-loop
-μ-loop netlist circuit values marks limit node pin₀ pin = pin
+μ-loop netlist circuit values touched limit node pin₀ pin = pin
+
+-- which pins are touched, by the definition; the loop comes down to pin 0
+module _ (p : tie.After-length-of Inv-loop μ-loop) where
+  abbrev start : tie.Start Inv-loop μ-loop
+  start = p .before .before .before .before
+
+  abbrev touched : ℕ → ℕ → ℕ
+  touched =
+      let a = start .args in
+      pinTouched (netOf (now (a .netlist))) (linesIn (a .circuit)) (at (now (a .values))) (at (take (a .limit) (now (a .touched)))) (a .node)
+
+  abbrev pins : List ℕ
+  pins = let a = start .args in indexed touched 0 (netOf (now (a .netlist)) .pins (a .node))
+
+  pins-count : length pins ≡ lengthOf (now (start .args .netlist)) (start .args .node)
+  pins-count = let a = start .args in length-by-pin (now (a .netlist)) touched (a .node)
+
+-- in a turn: the pin below is one of the node's, and the call says whether it is touched
+module _ (t : tie.After-pin-touched Inv-loop μ-loop) where
+  within : t .before .before .loop .pin - 1 < length (pins (t .before .before .before))
+  within =
+      let l = t .before .before .loop in
+      omega (arith, l .inv .0, t .before .loop-test .taken, pins-count (t .before .before .before))
+
+  answer : t .pin-touched .result ≡ at (pins (t .before .before .before)) (t .before .before .loop .pin - 1)
+  answer =
+      let p = t .before .before .before in
+      let a = start p .args in
+      let j = t .before .before .loop .pin - 1 in
+      let h : j < lengthOf (now (a .netlist)) (a .node) = omega (arith, within, pins-count p) in
+      t .pin-touched .ensures ∙ sym (by-pin-at (now (a .netlist)) (touched p) (a .node) j h)
 
 length-of-requires : tie.Need-length-of-requires Inv-loop μ-loop
 length-of-requires c κs = search needs
 
 loop-holds : tie.Need-loop-holds Inv-loop μ-loop
-loop-holds c = let a = c .before .before .before .before .args in
-    let s = now (a .netlist) in
-    let f = pinMark (netOf s) (linesIn (a .circuit)) (at (now (a .values))) (at (take (a .limit) (now (a .marks)))) (a .node) in
-    let ms = indexed f 0 (netOf s .pins (a .node)) in
-    let len = length-by-pin s f (a .node) in
-    (omega (arith, c .length-of .ensures), some-none ms _ (c .length-of .ensures ∙ sym len))
+loop-holds c = (omega (arith, c .length-of .ensures), some-none (pins c) _ (c .length-of .ensures ∙ sym (pins-count c)))
 
 sub-pin : tie.Need-sub-pin Inv-loop μ-loop
 sub-pin c = search needs
 
-pin-mark-requires : tie.Need-pin-mark-requires Inv-loop μ-loop
-pin-mark-requires c κs = search needs
+pin-touched-requires : tie.Need-pin-touched-requires Inv-loop μ-loop
+pin-touched-requires c κs = search needs
 
 returns : tie.Need-returns Inv-loop μ-loop
-returns c = let a = c .before .before .before .before .before .before .before .before .args in
-    let s = now (a .netlist) in
-    let f = pinMark (netOf s) (linesIn (a .circuit)) (at (now (a .values))) (at (take (a .limit) (now (a .marks)))) (a .node) in
-    let ms = indexed f 0 (netOf s .pins (a .node)) in
-    let len = length-by-pin s f (a .node) in
-    let i = c .before .before .before .loop in
-    let h : i .pin - 1 < lengthOf s (a .node) = omega (arith, i .inv .0, c .before .before .loop-test .taken) in
-    let e = c .before .pin-mark .ensures ∙ sym (by-pin-at s f (a .node) (i .pin - 1) h) in
-    sym (some-at ms (i .pin - 1) (omega (arith, len, h)) (λ z. c .if1 .taken (e ∙ z)))
+returns c =
+    let t = c .before in
+    sym (some-at (pins (t .before .before .before)) (t .before .before .loop .pin - 1) (within t) (λ z. c .if1 .taken (answer t ∙ z)))
 
 loop-less : tie.Need-loop-less Inv-loop μ-loop
 loop-less c = omega arith
 
 loop-again : tie.Need-loop-again Inv-loop μ-loop
-loop-again c = let a = c .before .before .before .before .before .before .before .before .args in
-    let s = now (a .netlist) in
-    let f = pinMark (netOf s) (linesIn (a .circuit)) (at (now (a .values))) (at (take (a .limit) (now (a .marks)))) (a .node) in
-    let ms = indexed f 0 (netOf s .pins (a .node)) in
-    let len = length-by-pin s f (a .node) in
-    let i = c .before .before .before .loop in
-    let h : i .pin - 1 < lengthOf s (a .node) = omega (arith, i .inv .0, c .before .before .loop-test .taken) in
-    let e = c .before .pin-mark .ensures ∙ sym (by-pin-at s f (a .node) (i .pin - 1) h) in
-    (omega (arith, h), some-more ms (i .pin) (c .before .before .loop-test .taken) (omega (arith, len, i .inv .0)) (sym e ∙ c .if1 .left) (i .inv .1))
+loop-again c =
+    let t = c .before in
+    let p = t .before .before .before in
+    let l = t .before .before .loop in
+    let some = t .before .loop-test .taken in
+    (omega (arith, l .inv .0), some-more (pins p) (l .pin) some (omega (arith, pins-count p, l .inv .0)) (sym (answer t) ∙ c .if1 .left) (l .inv .1))
 
 returns-2 : tie.Need-returns-2 Inv-loop μ-loop
-returns-2 c = let i = c .before .loop in
+returns-2 c =
+    let i = c .before .loop in
     let z : i .pin ≡ 0 = omega arith in
     sym (rw z at (i .inv .1))
 
@@ -80,7 +99,7 @@ some-pin-touched-spec =
     length-of-requires
     loop-holds
     sub-pin
-    pin-mark-requires
+    pin-touched-requires
     returns
     loop-less
     loop-again

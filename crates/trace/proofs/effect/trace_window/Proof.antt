@@ -8,14 +8,10 @@ use Rattle.circuit.specs.Fault.{linesOf}
 use Rattle.knowledge.specs.Inner.Slice.{knownIn}
 use Rattle.trace.specs.Trace.{effectDies}
 use Rattle.trace.specs.Inner.Tracing.{traced}
-use Rattle.trace.proofs.MarkLaws.{dies-latched, no-marks}
+use Rattle.trace.proofs.TouchedLaws.{dies-latched, none-touched}
 use borrow.Author.Needs.{needs}
 use Rattle.trace.proofs.effect.trace_window.Statement.{statement}
 use Rattle.trace.proofs.effect.trace_window.Tie as tie
-use Rattle.trace.proofs.effect.trace_window.Reads as reads
-use Rattle.trace.proofs.effect.trace_window.Lts as lts
-use Rattle.trace.proofs.effect.dies_from.Reads as dies-from-reads
-use Rattle.values.proofs.fill.Reads as fill-reads
 
 fill-requires : tie.Need-fill-requires
 fill-requires c κs = search needs
@@ -30,12 +26,18 @@ same-length : tie.Need-same-length
 same-length c = search needs
 
 returns : tie.Need-returns
-returns c = let a = c .before .before .before .before .before .before .before .before .before .before .before .before .before .before .before .args in
+returns c =
+    let d = c .before .before .before .before .before .before in
+    let f = d .before .before .before .before in
+    let a = f .before .before .before .before .before .args in
     let net = netOf (now (a .netlist)) in
     let kn = knownIn (now (a .known)) (net .size) in
-    let m = length (now (a .marks)) in
-    let e = c .before .before .before .before .before .before .dies-from .ensures ∙ ap (λ (l : List ℕ). effectDies net kn (a .f) (a .c) (linesOf (a .fault)) (take (a .n) l)) (c .before .before .before .before .before .before .before .before .before .before .fill .ensures) ∙ dies-latched net kn (a .f) (a .c) (linesOf (a .fault)) (take (a .n) (replicate m 0)) [] (no-marks (a .n) m) in
-    let k = c .before .before .before .before .before .before .dies-from .kept .1 .1 .1 .1 .1 .1 .0 ∙ c .before .before .before .before .before .before .before .before .before .before .fill .kept .0 in
+    let D = linesOf (a .fault) in
+    let m = length (now (a .touched)) in
+    let filled = ap (λ (l : List ℕ). effectDies net kn (a .f) (a .c) D (take (a .n) l)) (f .fill .ensures) in
+    let none = dies-latched net kn (a .f) (a .c) D (take (a .n) (replicate m 0)) [] (none-touched (a .n) m) in
+    let e = d .dies-from .ensures ∙ filled ∙ none in
+    let k = d .dies-from .kept .1 .1 .1 .1 .1 .1 .0 ∙ f .fill .kept .0 in
     let z = c .before .before .fill2 .ensures ∙ ap (λ (x : ℕ). replicate x 0) k in
     λ i. traced (e i) (z i)
 

@@ -5,9 +5,6 @@ use lib.ListN.{List·getD-eq-default, length}
 use borrow.Author.Needs.{needs}
 use Rattle.values.proofs.bytes.u32_at.Statement.{statement}
 use Rattle.values.proofs.bytes.u32_at.Tie as tie
-use Rattle.values.proofs.bytes.u32_at.Reads as reads
-use Rattle.values.proofs.bytes.u32_at.Lts as lts
-use Rattle.values.proofs.bytes.u16_at.Reads as u16-at-reads
 
 returns : tie.Need-returns
 returns c = let a = c .before .before .args in

@@ -6,10 +6,6 @@ use mathlib.Core.Path.{_≡_, sym, _∙_}
 use borrow.Author.Needs.{needs}
 use Rattle.witness.proofs.clocks.output_differs.Statement.{statement}
 use Rattle.witness.proofs.clocks.output_differs.Tie as tie
-use Rattle.witness.proofs.clocks.output_differs.Reads as reads
-use Rattle.witness.proofs.clocks.output_differs.Lts as lts
-use Rattle.netlist.proofs.kind_of.Reads as kind-of-reads
-use Rattle.values.proofs.byte_at.Reads as byte-at-reads
 
 kind-of-requires : tie.Need-kind-of-requires
 kind-of-requires c κs = search needs

@@ -1,4 +1,4 @@
-use Rattle.witness.specs.Inner.Clocks.{held}
+use Rattle.witness.specs.Inner.Clocks.{holding}
 use Rattle.witness.proofs.WitnessLaws.{both-by}
 use Rattle.netlist.specs.Netlist.{netOf}
 use Rattle.circuit.specs.Fault.{linesIn, linesOf}
@@ -36,7 +36,7 @@ unfolding linesIn
 returns c = let c10 = c .before .before .before .before .before .before .before .before .before .before in
     let c20 = c10 .before .before .before .before .before .before .before .before .before .before in
     let a = c20 .before .before .before .before .before .before .before .args in
-    both-by (netOf (now (a .netlist))) (linesOf (a .fault)) (held (now (a .first)) (now (a .second))) (held (now (a .third)) (now (a .fourth))) _ _ _ _
+    both-by (netOf (now (a .netlist))) (linesOf (a .fault)) (holding (now (a .first)) (now (a .second))) (holding (now (a .third)) (now (a .fourth))) _ _ _ _
     (c10 .before .before .before .before .before .before .before .before .before .copy .ensures) (c10 .before .before .before .before .run-clock .ensures)
     (c .before .before .before .before .before .before .before .run-clock2 .ensures) (c .outputs-differ .ensures)
 

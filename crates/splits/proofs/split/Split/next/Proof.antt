@@ -3,8 +3,6 @@ use Rattle.splits.specs.Inner.Next.{nextSplit}
 use borrow.Author.Needs.{needs}
 use Rattle.splits.proofs.split.Split.next.Statement.{statement}
 use Rattle.splits.proofs.split.Split.next.Tie as tie
-use Rattle.splits.proofs.split.Split.next.Reads as reads
-use Rattle.splits.proofs.split.Split.next.Lts as lts
 
 cast-if1 : tie.Need-cast-if1
 cast-if1 c = search needs
