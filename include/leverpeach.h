@@ -1,7 +1,12 @@
-/* The kit for C. Every function answers for any numbers and any bytes, given stack enough: leverpeach_find
-   takes at most 256 KiB of it (tested, not proved), with all that it calls. A slice is passed as a pointer and then its length: the
-   pointer has to be valid for that length, and a slice that is written may overlap no other. README.md says what
-   the answers mean. */
+/* The kit for C. Every function answers for any numbers and any bytes, given stack enough: leverpeach_find takes at
+   most 256 KiB of it (tested, not proved), with all that it calls. A slice is passed as a pointer and then its length:
+   the pointer has to be valid for that length, and a slice that is written may overlap no other. README.md says what
+   the answers mean.
+
+   A slice of length 0 may have any pointer, NULL too: no byte of it is read or written. It is refused as one that is
+   too short: an empty netlist with 1, an empty certificate with 8, an empty first or second of leverpeach_simulate
+   with 16, an empty work slice of leverpeach_check and leverpeach_find with 11, and an empty slice for the
+   certificate that is looked for with 12, unless a smaller number applies. */
 #ifndef LEVERPEACH_H
 #define LEVERPEACH_H
 

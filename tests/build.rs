@@ -10,7 +10,7 @@ mod port;
 /// Names a folder with another static library than the one of this tree.
 const OTHER_LIBRARY: &str = "LEVERPEACH_LIBRARY";
 
-/// Has the static library linked.
+/// Has the static library linked, and the tests told where it is.
 fn link_library(package: &Path) {
     println!("cargo:rerun-if-env-changed={OTHER_LIBRARY}");
     let own = || package.join("..").join("target").join("staticlib");
@@ -24,6 +24,7 @@ fn link_library(package: &Path) {
     );
     println!("cargo:rustc-link-search=native={}", directory.display());
     println!("cargo:rustc-link-lib=static=capi");
+    println!("cargo:rustc-env=LEVERPEACH_ARCHIVE={}", archive.display());
 }
 
 /// A folder that cargo names by an environment variable.

@@ -65,14 +65,15 @@ const BELIEVES_RUNS: Edit = Edit {
 /// A set that is proposed is not swept.
 const BELIEVES_PROPOSED: Edit = Edit {
     file: "search/notes.rt",
-    old: "        return;\n    }\n    sweeps::note_open(netlist, fault, c, f, known, marks, noted);",
+    old:
+        "        return;\n    }\n    sweeps::note_open(netlist, fault, c, f, known, spare, noted);",
     new: "        return;\n    }\n    splits::note_known(known, c, noted);",
 };
 
 /// A set that is guessed is not swept.
 const BELIEVES_GUESSED: Edit = Edit {
     file: "search/notes.rt",
-    old: "known);\n    sweeps::note_open(netlist, fault, c, f, known, marks, noted);",
+    old: "known);\n    sweeps::note_open(netlist, fault, c, f, known, spare, noted);",
     new: "known);\n    splits::note_known(known, c, noted);",
 };
 
@@ -86,15 +87,15 @@ const BELIEVES_NOTES: Edit = Edit {
 /// A split for which no set is noted is not worked out.
 const BELIEVES_CLOSINGS: Edit = Edit {
     file: "search/branch.rt",
-    old: "if sweeps::both_close(netlist, fault, f, split, known, marks) {",
+    old: "if sweeps::both_close(netlist, fault, f, split, known, spare) {",
     new: "if true {",
 };
 
 /// A split that is worked out is counted.
 const COUNTED: Edit = Edit {
     file: "search/branch.rt",
-    old: "if sweeps::both_close(netlist, fault, f, split, known, marks) {",
-    new: "if crate::counts::count(sweeps::both_close(netlist, fault, f, split, known, marks)) {",
+    old: "if sweeps::both_close(netlist, fault, f, split, known, spare) {",
+    new: "if crate::counts::count(sweeps::both_close(netlist, fault, f, split, known, spare)) {",
 };
 
 /// The copies that the tests call.

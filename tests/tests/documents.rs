@@ -1,14 +1,9 @@
-//! What `docs/TRACE.md` and `docs/READING.md` name is there, and is what they
-//! say it is.
+//! What the documents name is there, and is what they say it is.
 
-use leverpeach_tests::documents::{check_reading, check_trace, in_repository, Findings, Found};
-use leverpeach_tests::files::top_folder;
-use std::fs;
-
-/// A document of the repository.
-fn document(path: &str) -> String {
-    fs::read_to_string(top_folder().join(path)).unwrap_or_else(|why| panic!("{path}: {why}"))
-}
+use leverpeach_tests::documents::{
+    check_places, check_reading, check_trace, in_repository, Findings, Found,
+};
+use leverpeach_tests::files::text_of;
 
 /// Fails with all complaints, one a line.
 fn assert_clean(path: &str, findings: &Findings) {
@@ -21,12 +16,18 @@ fn assert_clean(path: &str, findings: &Findings) {
     );
 }
 
-#[test]
-fn the_trace_names_what_exists() {
-    let path = "docs/TRACE.md";
-    let findings = check_trace(&document(path), in_repository);
+/// Looks at a trace, which must have nothing to complain of.
+fn trace(path: &str) -> Findings {
+    let findings = check_trace(&text_of(path), in_repository);
     println!("{path}: {} rows, {} names", findings.rows, findings.names);
     assert_clean(path, &findings);
+    findings
+}
+
+#[test]
+fn the_trace_of_01_names_what_exists() {
+    let path = "docs/TRACE-01.md";
+    let findings = trace(path);
     assert!(findings.rows >= 100, "{path}: only {} rows", findings.rows);
     assert!(
         findings.names >= 100,
@@ -36,9 +37,16 @@ fn the_trace_names_what_exists() {
 }
 
 #[test]
+fn the_trace_of_02_names_what_exists() {
+    let path = "docs/TRACE-02.md";
+    let says_empty = text_of(path).contains("No request is built yet.");
+    assert_eq!(says_empty, trace(path).rows == 0, "{path}");
+}
+
+#[test]
 fn the_way_through_the_proof_names_what_exists() {
     let path = "docs/READING.md";
-    let findings = check_reading(&document(path), in_repository);
+    let findings = check_reading(&text_of(path), in_repository);
     println!(
         "{path}: {} names, {} line counts",
         findings.names, findings.counts
@@ -46,6 +54,20 @@ fn the_way_through_the_proof_names_what_exists() {
     assert_clean(path, &findings);
     assert!(findings.names > 0, "{path} names nothing");
     assert!(findings.counts > 0, "{path} counts no lines");
+}
+
+#[test]
+fn architecture_and_performance_name_what_exists() {
+    for path in ["docs/ARCHITECTURE.md", "docs/PERFORMANCE.md"] {
+        let findings = check_places(&text_of(path), in_repository);
+        println!("{path}: {} rows, {} names", findings.rows, findings.names);
+        assert_clean(path, &findings);
+        assert!(
+            findings.names >= 20,
+            "{path}: only {} names",
+            findings.names
+        );
+    }
 }
 
 /// Definitions and a proof, as the kit's are written.
@@ -112,10 +134,15 @@ uint64_t leverpeach_read(const uint8_t *netlist, size_t netlist_length);
 
 /// The files that the samples speak of.
 fn in_sample(path: &str) -> Option<Found> {
+    let folder = |files: &[&str]| {
+        let paths = files.iter().map(|file| file.to_string());
+        Some(Found::Folder(paths.collect()))
+    };
     let text = match path {
-        "specs/" | "specs" => return Some(Found::Folder),
-        "specs/Laws.antt" => LAWS,
-        "src/code.rt" => CODE,
+        "specs/" | "specs" => return folder(&["specs/Laws.antt"]),
+        "crates/kit/" => return folder(&["crates/kit/src/code.rt", "crates/kit/specs/Own.antt"]),
+        "specs/Laws.antt" | "crates/kit/specs/Own.antt" => LAWS,
+        "src/code.rt" | "crates/kit/src/code.rt" => CODE,
         "kit.h" => HEADER,
         "notes.txt" => "one\ntwo\n",
         _ => return None,
@@ -293,5 +320,79 @@ fn a_wrong_line_count_is_complained_of() {
     ] {
         let findings = reading_with("Fine.", row);
         assert_eq!(findings.complaints, [format!("line 12: {complaint}")]);
+    }
+}
+
+/// What is said of a table with two columns and one row.
+fn places_with(head: &str, row: &str) -> Findings {
+    let document = format!("# Rooms\n\n| {head} |\n|---|---|\n| {row} |\n");
+    check_places(&document, in_sample)
+}
+
+#[test]
+fn a_right_row_of_places_has_no_complaints() {
+    for (head, row, names) in [
+        (
+            "Crate | Public",
+            "`kit` | `next`, the type `Rule`; `Own`",
+            3,
+        ),
+        ("Law | File", "a law (`a-law`) | `specs/Laws.antt`", 1),
+        ("Module | What", "`src/code.rt` | `next` and `exported`", 2),
+        ("Law | File", "plain words | `specs/`", 0),
+        ("Before | Now", "`gone`: `lost` | `kit`: `code`", 1),
+        (
+            "Before | Now",
+            "`lost/` | `kit`: `size` in `specs/Own.antt`",
+            1,
+        ),
+    ] {
+        let findings = places_with(head, row);
+        assert_clean(row, &findings);
+        assert_eq!((findings.rows, findings.names), (1, names), "{row}");
+    }
+}
+
+#[test]
+fn a_wrong_row_of_places_is_complained_of() {
+    for (head, row, complaint) in [
+        (
+            "Crate | Public",
+            "`kit` | `next`, `lost`",
+            "`lost` is not defined in: crates/kit/",
+        ),
+        (
+            "Crate | Public",
+            "kit | `next`",
+            "`next` stands beside no file",
+        ),
+        (
+            "Law | File",
+            "a law (`next`) | `specs/Laws.antt`",
+            "`next` is not defined in: specs/Laws.antt",
+        ),
+        (
+            "Law | File",
+            "a law | `specs/Lost.antt`",
+            "there is no `specs/Lost.antt`",
+        ),
+        (
+            "Law | File",
+            "a law | `specs/Laws.antt`: `lost`",
+            "`lost` is not defined in `specs/Laws.antt`",
+        ),
+        (
+            "Before | Now",
+            "`gone` | `kit`: `gone`",
+            "`gone` is not defined in: crates/kit/",
+        ),
+        (
+            "Before | Now",
+            "`gone` | `kit`: `specs/Laws.txt`",
+            "there is no `specs/Laws.txt`",
+        ),
+    ] {
+        let complaints = places_with(head, row).complaints;
+        assert_eq!(complaints, [format!("line 5: {complaint}")]);
     }
 }

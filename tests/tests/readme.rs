@@ -1,13 +1,11 @@
 //! The README's quotes of files and of what commands print are right.
 
 use leverpeach_tests::documents::{check_quotes, in_repository, Found, Quotes};
-use leverpeach_tests::files::top_folder;
-use std::fs;
+use leverpeach_tests::files::text_of;
 
 #[test]
 fn the_readme_quotes_files_and_commands_as_they_are() {
-    let readme = fs::read_to_string(top_folder().join("README.md")).unwrap();
-    let quotes = check_quotes(&readme, in_repository);
+    let quotes = check_quotes(&text_of("README.md"), in_repository);
     let complaints = quotes.complaints.join("\n");
     assert!(complaints.is_empty(), "README.md:\n{complaints}");
     assert!(quotes.files > 0, "README.md quotes no file");

@@ -5,14 +5,17 @@ use leverpeach_tests::circuits::{damaged, raw, small, structured, worked, Draft}
 use leverpeach_tests::files::{example, top_folder};
 use leverpeach_tests::model::{self, kind};
 use leverpeach_tests::random::Random;
-use std::io::{ErrorKind, Write};
+use std::fs::{File, OpenOptions};
+use std::io::{self, ErrorKind, PipeReader, Read, Write};
+use std::os::fd::AsRawFd;
+use std::os::unix::fs::OpenOptionsExt;
 use std::process::{Command, Stdio};
 use std::thread;
 use std::time::Duration;
 
-/// What the program prints when its input comes in these pieces, one after the
-/// other.
-fn printed_for_pieces(pieces: &[&[u8]]) -> String {
+/// What the program prints to this output when its input comes in these pieces,
+/// one after the other. To an output that is not piped here that is nothing.
+fn print_to(output: impl Into<Stdio>, pieces: &[&[u8]]) -> String {
     let path = top_folder().join("target/bin/report");
     assert!(
         path.is_file(),
@@ -21,7 +24,7 @@ fn printed_for_pieces(pieces: &[&[u8]]) -> String {
     );
     let mut program = Command::new(path)
         .stdin(Stdio::piped())
-        .stdout(Stdio::piped())
+        .stdout(output)
         .stderr(Stdio::piped())
         .spawn()
         .expect("the program starts");
@@ -34,6 +37,10 @@ fn printed_for_pieces(pieces: &[&[u8]]) -> String {
     assert!(output.status.success(), "{}", output.status);
     assert_eq!(String::from_utf8_lossy(&output.stderr), "");
     String::from_utf8(output.stdout).expect("the report is text")
+}
+
+fn printed_for_pieces(pieces: &[&[u8]]) -> String {
+    print_to(Stdio::piped(), pieces)
 }
 
 fn write_pieces(input: &mut impl Write, pieces: &[&[u8]]) {
@@ -228,6 +235,69 @@ fn input_that_comes_in_pieces() {
     }
     let bytes: Vec<&[u8]> = whole.chunks(5).collect();
     assert_eq!(printed_for_pieces(&bytes), expected);
+}
+
+/// A pipe that takes no more than so many bytes, up to a page, and never waits
+/// for more room; and how many bytes are in it already.
+fn pipe_with_room(room: usize) -> (PipeReader, File, usize) {
+    const PAGE: usize = 4_096;
+    // O_NONBLOCK, as Linux has it on x86-64.
+    const NEVER_WAIT: i32 = 0o4000;
+    let (mut reader, writer) = io::pipe().expect("there are pipes");
+    let path = format!("/proc/self/fd/{}", writer.as_raw_fd());
+    let mut options = OpenOptions::new();
+    let opened = options.write(true).custom_flags(NEVER_WAIT).open(path);
+    let mut file = opened.expect("the pipe can be opened once more");
+    let mut filled = 0;
+    let full = loop {
+        match file.write(&[0; PAGE]) {
+            Ok(written) => filled += written,
+            Err(why) => break why.kind(),
+        }
+    };
+    assert_eq!(full, ErrorKind::WouldBlock);
+    // A page is taken as a whole, so that one that is read makes room for one.
+    reader.read_exact(&mut [0; PAGE]).expect("a page is there");
+    file.write_all(&vec![0; PAGE - room]).expect("a page fits");
+    (reader, file, filled - room)
+}
+
+/// What of the report on an AND of one input twice comes through such a pipe.
+fn report_through(room: usize) -> String {
+    let (mut reader, file, filled) = pipe_with_room(room);
+    print_to(file, &[&input(0, 0, &worked::AND_TWICE)]);
+    let mut bytes = Vec::new();
+    reader.read_to_end(&mut bytes).expect("the pipe is read");
+    String::from_utf8(bytes.split_off(filled)).expect("the report is text")
+}
+
+// The lines have 12 bytes each, the total has 8: it would fit where a line did
+// not, and then count lines that are not there.
+#[test]
+fn no_total_follows_a_first_line_that_did_not_fit() {
+    assert_eq!(report_through(10), "");
+}
+
+#[test]
+fn no_total_follows_a_second_line_that_did_not_fit() {
+    assert_eq!(report_through(22), "1 0 1 0 0 0\n");
+}
+
+#[test]
+fn what_fits_is_printed() {
+    let lines = "1 0 1 0 0 0\n1 1 1 0 0 0\n";
+    assert_eq!(report_through(31), lines);
+    assert_eq!(report_through(32), format!("{lines}2 of 12\n"));
+}
+
+#[test]
+fn an_output_that_takes_nothing() {
+    // The program ends, with status 0 and not a word on standard error.
+    let full = || File::options().write(true).open("/dev/full");
+    for netlist in [&worked::AND_TWICE[..], &example("mix30"), &[]] {
+        let output = full().expect("there is a full device");
+        print_to(output, &[&input(2, 1, netlist)]);
+    }
 }
 
 #[test]

@@ -7,7 +7,7 @@
 
 use leverpeach_tests::circuits::calls::{self, Request};
 use leverpeach_tests::circuits::{mix, structured, worked, Draft};
-use leverpeach_tests::files::example;
+use leverpeach_tests::files::{example, text_of};
 use leverpeach_tests::model::finder::Lent;
 use leverpeach_tests::model::netlist::Netlist;
 use leverpeach_tests::model::report::faults;
@@ -58,6 +58,22 @@ fn count_answers(netlist: &[u8], b: u8, f: u8, one_of: usize) -> [usize; 3] {
         count(|answer| answer >> 32 > 1),
         count(|answer| answer == 0),
     ]
+}
+
+#[test]
+fn callers_are_told_of_this_stack() {
+    let size = format!("{} KiB", STACK / 1024);
+    for (path, said) in [
+        ("README.md", "| stack of a call of the finder | at most "),
+        ("include/leverpeach.h", "leverpeach_find takes at most "),
+        ("docs/PERFORMANCE.md", "A thread with "),
+    ] {
+        // The header breaks its lines where they are full.
+        let text = text_of(path);
+        let words: Vec<&str> = text.split_whitespace().collect();
+        let right = words.join(" ").contains(&format!("{said}{size}"));
+        assert!(right, "{path} does not say: {said}{size}");
+    }
 }
 
 #[test]

@@ -1,12 +1,12 @@
 //! The checks of a document: whatever it says wrongly is complained of, line by
 //! line.
 
-use super::definitions::defines;
+use super::definitions::names_in;
 use super::markdown::{blocks, Block, Line, Row};
 use super::mentions::{mentions_of_cell, Mention, Passage};
 use super::{Found, LookUp};
 
-/// The columns of each table of `docs/TRACE.md`.
+/// The columns of each table of `docs/TRACE-01.md` and `docs/TRACE-02.md`.
 const TRACE_COLUMNS: [&str; 4] = ["Sentence", "Defined", "Proved or promised", "Tested"];
 
 /// What a look at a document found.
@@ -22,8 +22,9 @@ pub struct Findings {
     pub counts: usize,
 }
 
-/// Looks at `docs/TRACE.md`: tables of sentences, and where each is defined,
-/// proved and tested. Code spans in the last three columns are references.
+/// Looks at `docs/TRACE-01.md` or `docs/TRACE-02.md`: tables of sentences, and
+/// where each is defined, proved and tested. Code spans in the last three
+/// columns are references.
 pub fn check_trace(document: &str, look_up: LookUp) -> Findings {
     check(document, look_up, Check::trace_table)
 }
@@ -32,6 +33,13 @@ pub fn check_trace(document: &str, look_up: LookUp) -> Findings {
 /// their line counts.
 pub fn check_reading(document: &str, look_up: LookUp) -> Findings {
     check(document, look_up, Check::reading_table)
+}
+
+/// Looks at `docs/ARCHITECTURE.md` or `docs/PERFORMANCE.md`: text with
+/// references, and tables whose rows name places, and names that are defined
+/// there.
+pub fn check_places(document: &str, look_up: LookUp) -> Findings {
+    check(document, look_up, Check::places_table)
 }
 
 fn check(document: &str, look_up: LookUp, table: fn(&mut Check, &Row, &[Row])) -> Findings {
@@ -51,13 +59,13 @@ fn check(document: &str, look_up: LookUp, table: fn(&mut Check, &Row, &[Row])) -
 }
 
 /// A check under way.
-struct Check {
-    look_up: LookUp,
-    findings: Findings,
+pub(super) struct Check {
+    pub(super) look_up: LookUp,
+    pub(super) findings: Findings,
 }
 
 impl Check {
-    fn complain(&mut self, line: usize, complaint: String) {
+    pub(super) fn complain(&mut self, line: usize, complaint: String) {
         let complaints = &mut self.findings.complaints;
         complaints.push(format!("line {line}: {complaint}"));
     }
@@ -72,7 +80,7 @@ impl Check {
         }
     }
 
-    fn mention(&mut self, line: usize, mention: &Mention) {
+    pub(super) fn mention(&mut self, line: usize, mention: &Mention) {
         let complaint = match *mention {
             Mention::Path(path) => self.wrong_path(path),
             Mention::Name { name, file } => self.wrong_name(name, file),
@@ -87,7 +95,7 @@ impl Check {
     fn wrong_path(&self, path: &str) -> Option<String> {
         match ((self.look_up)(path), path.ends_with('/')) {
             (None, _) => Some(format!("there is no `{path}`")),
-            (Some(Found::Folder), false) => Some(format!("`{path}` is a folder")),
+            (Some(Found::Folder(_)), false) => Some(format!("`{path}` is a folder")),
             (Some(Found::File(_)), true) => Some(format!("`{path}` is no folder")),
             _ => None,
         }
@@ -98,8 +106,8 @@ impl Check {
         let defined = match (self.look_up)(file) {
             // A path at which nothing stands has its own complaint.
             None => return None,
-            Some(Found::Folder) => None,
-            Some(Found::File(text)) => defines(file, &text, name),
+            Some(Found::Folder(_)) => None,
+            Some(Found::File(text)) => names_in(file, &text).map(|names| names.contains(&name)),
         };
         match defined {
             Some(true) => None,
@@ -167,7 +175,7 @@ impl Check {
         };
         let lines = match (self.look_up)(path) {
             Some(Found::File(text)) => text.matches('\n').count(),
-            Some(Found::Folder) => {
+            Some(Found::Folder(_)) => {
                 return self.complain(row.number, format!("`{path}` is no file"));
             }
             // A path at which nothing stands has its own complaint.

@@ -1,17 +1,16 @@
 //! The names that a source file defines: where they stand as definitions, not
 //! where they are used.
 
-/// Whether a file with this text defines a name, none where names are not
+/// The names that a file with this text defines, none where names are not
 /// looked up in files of its kind.
-pub fn defines(path: &str, text: &str, name: &str) -> Option<bool> {
+pub fn names_in<'a>(path: &str, text: &'a str) -> Option<Vec<&'a str>> {
     let (_, end) = path.rsplit_once('.')?;
-    let names = match end {
-        "antt" => names_in_proofs(text),
-        "rt" | "rs" => names_in_code(text),
-        "c" | "h" => text.lines().filter_map(name_in_c).collect(),
-        _ => return None,
-    };
-    Some(names.contains(&name))
+    match end {
+        "antt" => Some(names_in_proofs(text)),
+        "rt" | "rs" => Some(names_in_code(text)),
+        "c" | "h" => Some(text.lines().filter_map(name_in_c).collect()),
+        _ => None,
+    }
 }
 
 /// How far a line is indented.

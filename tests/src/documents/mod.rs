@@ -6,18 +6,22 @@ mod checks;
 mod definitions;
 mod markdown;
 mod mentions;
+mod places;
 mod quotes;
 
-pub use checks::{check_reading, check_trace, Findings};
+pub use checks::{check_places, check_reading, check_trace, Findings};
+pub use definitions::names_in;
 pub use quotes::{check_quotes, Quotes};
 
-use crate::files::top_folder;
+use crate::files::{files_below, top_folder};
 use std::fs;
 
 /// What stands at a path.
 pub enum Found {
+    /// A file, with its text.
     File(String),
-    Folder,
+    /// A folder, with the paths of all files below it.
+    Folder(Vec<String>),
 }
 
 /// Tells what stands at a path, if anything does.
@@ -30,7 +34,8 @@ pub fn in_repository(path: &str) -> Option<Found> {
     }
     let place = top_folder().join(path);
     if place.is_dir() {
-        return Some(Found::Folder);
+        let files = files_below(path.trim_end_matches('/'));
+        return Some(Found::Folder(files));
     }
     let bytes = fs::read(place).ok()?;
     Some(Found::File(String::from_utf8_lossy(&bytes).into_owned()))
