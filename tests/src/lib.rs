@@ -6,10 +6,12 @@
 //! gives both the same call and looks at every answer and every lent byte;
 //! [`circuits`] and [`random`] make the calls, [`cases`] counts them. [`claim`]
 //! decides for small circuits what an accepted certificate promises.
-//! [`documents`] holds what the documents name against the repository's
-//! [`files`].
+//! [`program`] runs the report program. [`checksum`] stands for bytes that are
+//! too many to be written out. [`documents`] holds what the documents name
+//! against the repository's [`files`].
 
 pub mod cases;
+pub mod checksum;
 pub mod circuits;
 pub mod claim;
 pub mod compare;
@@ -17,4 +19,5 @@ pub mod documents;
 pub mod files;
 pub mod model;
 pub mod native;
+pub mod program;
 pub mod random;

@@ -1,5 +1,6 @@
 //! The kit's library through its C interface.
 
+use crate::circuits::calls::{self, Request};
 use crate::model::finder::Lent;
 use crate::model::{Checked, Fault, Finding, Reading, Site, Stepped};
 
@@ -152,6 +153,22 @@ pub fn find(netlist: &[u8], fault: Fault, b: u8, f: u8, lent: Lent) -> u64 {
     }
 }
 
+/// The library's finder in slices of its own, just long enough: its answer, and
+/// the certificate's bytes, none where none is found.
+pub fn find_alone(netlist: &[u8], request: Request) -> (u64, Vec<u8>) {
+    let lengths = request.slice_lengths(calls::node_count(netlist));
+    let [mut first, mut second, mut certificate] = lengths.map(|length| vec![170; length]);
+    let lent = Lent {
+        first: &mut first,
+        second: &mut second,
+        certificate: &mut certificate,
+    };
+    let Request { fault, b, f } = request;
+    let answer = find(netlist, fault, b, f, lent);
+    certificate.truncate(found_length(answer));
+    (answer, certificate)
+}
+
 /// The number by which the C interface gives a reader's answer.
 pub fn reading_number(reading: Reading) -> u64 {
     match reading {
@@ -198,4 +215,13 @@ pub fn finding_number(finding: Finding) -> u64 {
 /// The number for a certificate found with this c and of so many bytes.
 pub fn found_number(c: u8, length: usize) -> u64 {
     ((u64::from(c) + 1) << 32) + length as u64
+}
+
+/// The length that the number of a finder's answer tells: the lower half, where
+/// a certificate is found.
+fn found_length(answer: u64) -> usize {
+    match answer >> 32 {
+        0 => 0,
+        _ => (answer & 0xFFFF_FFFF) as usize,
+    }
 }

@@ -8,7 +8,6 @@ use leverpeach_tests::circuits::{certificates, mutants, small};
 use leverpeach_tests::claim::Claim;
 use leverpeach_tests::model::certificate::Certificate;
 use leverpeach_tests::model::checker::check_in_trap;
-use leverpeach_tests::model::finder::Lent;
 use leverpeach_tests::model::{Checked, Fault, Trap};
 use leverpeach_tests::native::{self, accepted_number};
 use leverpeach_tests::random::Random;
@@ -50,20 +49,11 @@ impl Subject {
     /// The certificate that the library finds, if it does.
     fn found(&self, b: u8, f: u8) -> Option<Vec<u8>> {
         let fault = self.fault;
-        let lengths = Request { fault, b, f }.slice_lengths(self.nodes);
-        let [mut first, mut second, mut certificate] = lengths.map(|length| vec![0; length]);
-        let lent = Lent {
-            first: &mut first,
-            second: &mut second,
-            certificate: &mut certificate,
-        };
-        let answer = native::find(&self.netlist, fault, b, f, lent);
+        let (answer, certificate) = native::find_alone(&self.netlist, Request { fault, b, f });
         assert!(
             answer == 0 || answer > 16,
             "refused with {answer}: {self:?}"
         );
-        // The lower half of the number is the length.
-        certificate.truncate((answer & 0xFFFF_FFFF) as usize);
         (answer > 0).then_some(certificate)
     }
 }
