@@ -4,6 +4,11 @@ use super::{Draft, Node};
 use crate::model::kind;
 use crate::random::Random;
 
+/// The most pins of the gates that pins are spread over. It stays what it is:
+/// the benchmark compares libraries on the same netlists, also with older ones,
+/// which know no wider gates.
+const MOST_SPREAD: usize = 8;
+
 /// A sound netlist of this many nodes. Wide gates are rarer than narrow ones.
 pub fn random(random: &mut Random, nodes: usize) -> Draft {
     let kinds = kinds(random, nodes);
@@ -26,12 +31,12 @@ pub fn of_size(random: &mut Random, nodes: usize, pins: usize) -> Draft {
     let wide = kinds.iter().filter(|kind| is_wide(**kind)).count();
     let mut total: usize = counts.iter().sum();
     assert!(
-        total <= pins && pins <= total + 6 * wide,
+        total <= pins && pins <= total + (MOST_SPREAD - 2) * wide,
         "no room for {pins} pins"
     );
     while total < pins {
         let node = random.below(nodes);
-        if is_wide(kinds[node]) && counts[node] < 8 {
+        if is_wide(kinds[node]) && counts[node] < MOST_SPREAD {
             counts[node] += 1;
             total += 1;
         }
@@ -107,4 +112,23 @@ fn source(random: &mut Random, kinds: &[u8], node: usize) -> u16 {
     }
     // Among many outputs the draws may all fail; the first node never is one.
     0
+}
+
+#[cfg(test)]
+mod tests {
+    use super::*;
+    use crate::checksum::Checksum;
+
+    #[test]
+    fn netlists_of_a_size_stay_the_same() {
+        for (seed, nodes, pins, sum) in [
+            (1, 4_096, 16_384, 0x072F_87A8_D571_B2C8),
+            (2, 1_000, 4_000, 0x862A_AF70_29FF_9D8F),
+            (20_010_601, 300, 1_000, 0xDCA3_BAAF_0166_C1D4),
+        ] {
+            let draft = of_size(&mut Random::new(seed), nodes, pins);
+            let checksum = Checksum::of(&draft.to_bytes());
+            assert_eq!(checksum.number(), sum, "seed {seed}");
+        }
+    }
 }
