@@ -109,9 +109,9 @@ cases =
     -- P8: B 14, F 0 is allowed; F 1 gives 10 and alters nothing
     ∷ case (sought p6 (fault 0 Whole 0) 14 0 15 235) (leaves (found 1 32 1) 15 certificate₇ 203)
     ∷ case (sought p6 (fault 0 Whole 0) 14 1 16 249) (given (refused 10) (replicate 16 7 ∷ replicate 16 7 ∷ replicate 249 9 ∷ []))
-    -- P9: AND of 8 pins is sound; of 9 gives 6
-    ∷ case (reads (p9 8)) (given (sound 2 8) [])
-    ∷ case (reads (p9 9)) (given (refused 6) [])
+    -- P9, which request 1 of 02 moved: AND of 64 pins is sound; of 65 gives 6
+    ∷ case (reads (p9 64)) (given (sound 2 64) [])
+    ∷ case (reads (p9 65)) (given (refused 6) [])
     ∷ []
 
 pub circuits : map (λ (k : Case). givenBy (k .call)) cases ≡ map (λ (k : Case). k .gives) cases

@@ -1,4 +1,4 @@
--- 01, "Kind": what each kind number decides. Pin limits and gate functions stand here, once.
+-- 01, "Kind", with the pin limit of 02, request 1: what each kind number decides. Pin limits and gate functions stand here, once.
 use mathlib.Core.Bool.{Bool, _||_, false, true}
 use mathlib.Core.List.{List, [], _∷_}
 use Prim.Native.Nat.{ℕ}
@@ -11,7 +11,7 @@ use Rattle.gates.specs.declared.kind.Rule.{Rule}
 
 -- the most pins of an AND, NAND, OR or NOR
 abbrev pub mostPins : ℕ
-mostPins = 8
+mostPins = 64
 
 -- the greatest kind number
 abbrev pub lastKind : ℕ
@@ -20,25 +20,32 @@ lastKind = 10
 abbrev pub rule : ℕ → ℕ → Gate → Bool → Rule
 rule l m g i = record { least = l; most = m; gate = g; inverted = i }
 
--- the fewest pins, the most pins, the function of the pins, and whether its value is inverted
-abbrev pub rules : List Rule
-rules =
+-- the fewest pins, the most pins, the function of the pins, and whether its value is inverted, where an AND, NAND, OR or NOR
+-- has so many pins at most
+abbrev pub rulesUpTo : ℕ → List Rule
+rulesUpTo most =
     rule 0 0 Wire false  -- 0 input
     ∷ rule 1 1 Wire false  -- 1 output
     ∷ rule 1 1 Wire false  -- 2 flip-flop
     ∷ rule 1 1 Wire false  -- 3 buffer
     ∷ rule 1 1 Wire true  -- 4 NOT
-    ∷ rule 2 mostPins And false  -- 5 AND
-    ∷ rule 2 mostPins And true  -- 6 NAND
-    ∷ rule 2 mostPins Or false  -- 7 OR
-    ∷ rule 2 mostPins Or true  -- 8 NOR
+    ∷ rule 2 most And false  -- 5 AND
+    ∷ rule 2 most And true  -- 6 NAND
+    ∷ rule 2 most Or false  -- 7 OR
+    ∷ rule 2 most Or true  -- 8 NOR
     ∷ rule 2 2 Xor false  -- 9 XOR
     ∷ rule 2 2 Xor true  -- 10 XNOR
     ∷ []
 
--- a greater number is no kind: no pin count fits it
+abbrev pub rules : List Rule
+rules = rulesUpTo mostPins
+
+-- the rule of kind k in such a table; a number past its end is no kind, and no pin count fits it
+abbrev pub ruleIn : List Rule → ℕ → Rule
+ruleIn rs k = getD rs k (rule 1 0 Wire false)
+
 unfoldable pub ruleOf : ℕ → Rule
-ruleOf k = getD rules k (rule 1 0 Wire false)
+ruleOf k = ruleIn rules k
 
 -- the function of no pins, and of a first pin's value v where w is the function of the rest
 abbrev pub unitOf : Gate → ℕ

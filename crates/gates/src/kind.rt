@@ -4,7 +4,7 @@ ghost use Rattle.gates.specs.Kind.{rule, ruleOf, unitOf, joinOf, control
 ghost use Rattle.gates.specs.Value.{differ, neg, and₂, or₂, xor₂};
 
 // The most pins of an AND, NAND, OR or NOR.
-const MOST_PINS: u16 = 8;
+const MOST_PINS: u16 = 64;
 
 // The greatest kind number.
 pub const LAST_KIND: u8 = 10;

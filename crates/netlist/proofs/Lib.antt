@@ -2,5 +2,6 @@
 pub mod RefusalLaws
 pub mod NetlistLaws
 pub mod SoundLaws
+pub mod LimitLaws
 pub mod NumberLaws
 pub mod Vectors

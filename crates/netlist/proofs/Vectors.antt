@@ -37,12 +37,12 @@ p6 = 1 ∷ 0 ∷ 1 ∷ 0 ∷ 2 ∷ 0 ∷ 0 ∷ 1 ∷ 0 ∷ 0 ∷ 0 ∷ []
 abbrev pub p9 : ℕ → List ℕ
 p9 m = 2 ∷ 0 ∷ m ∷ 0 ∷ 0 ∷ 0 ∷ 0 ∷ 0 ∷ 0 ∷ 5 ∷ 0 ∷ 0 ∷ m ∷ 0 ∷ replicate (2 * m) 0
 
--- what the reader answers, to sound netlists and to the examples of 01's table of refusals
+-- what the reader answers, to sound netlists, to the examples of 01's table of refusals, and to pin counts of 02, request 1
 pub record Readings : Type 0 where
   pub flip-flops : reading p1 ≡ sound 6 6
   pub one-input-twice : reading p3 ≡ sound 3 3
   pub own-source : reading p6 ≡ sound 1 1
-  pub eight-pins : reading (p9 8) ≡ sound 2 8
+  pub widest : reading (p9 64) ≡ sound 2 64
   pub three-bytes : reading (1 ∷ 0 ∷ 0 ∷ []) ≡ refused 1
   pub no-nodes : reading (0 ∷ 0 ∷ 0 ∷ 0 ∷ []) ≡ refused 2
   pub nodes-4097 : reading (1 ∷ 16 ∷ 0 ∷ 0 ∷ []) ≡ refused 2
@@ -50,7 +50,10 @@ pub record Readings : Type 0 where
   -- kind 11 and, at the next node, a pair that is not joined
   pub kind-11 : reading (2 ∷ 0 ∷ 0 ∷ 0 ∷ 11 ∷ 0 ∷ 0 ∷ 0 ∷ 0 ∷ 0 ∷ 1 ∷ 0 ∷ 0 ∷ 0 ∷ []) ≡ refused 4
   pub first-offset-1 : reading (1 ∷ 0 ∷ 0 ∷ 0 ∷ 0 ∷ 1 ∷ 0 ∷ 0 ∷ 0 ∷ []) ≡ refused 5
-  pub nine-pins : reading (p9 9) ≡ refused 6
+  pub too-wide : reading (p9 65) ≡ refused 6
+  -- an AND of 264 pins: the low byte of their number, 8, does not count by itself
+  pub low-byte-8 : reading (2 ∷ 0 ∷ 8 ∷ 1 ∷ 0 ∷ 0 ∷ 0 ∷ 0 ∷ 0 ∷ 5 ∷ 0 ∷ 0 ∷ 8 ∷ 1 ∷ replicate 528 0) ≡ refused 6
+  pub xor-of-three : reading (2 ∷ 0 ∷ 3 ∷ 0 ∷ 0 ∷ 0 ∷ 0 ∷ 0 ∷ 0 ∷ 9 ∷ 0 ∷ 0 ∷ 3 ∷ 0 ∷ 0 ∷ 0 ∷ 0 ∷ 0 ∷ 0 ∷ 0 ∷ []) ≡ refused 6
   -- two inputs, and node 2 a NOT of node 2
   pub not-of-itself : reading (3 ∷ 0 ∷ 1 ∷ 0 ∷ 0 ∷ 0 ∷ 0 ∷ 0 ∷ 0 ∷ 0 ∷ 0 ∷ 0 ∷ 0 ∷ 0 ∷ 4 ∷ 0 ∷ 0 ∷ 1 ∷ 0 ∷ 2 ∷ 0 ∷ []) ≡ refused 7
 
@@ -61,13 +64,15 @@ readings =
       flip-flops = refl;
       one-input-twice = refl;
       own-source = refl;
-      eight-pins = refl;
+      widest = refl;
       three-bytes = refl;
       no-nodes = refl;
       nodes-4097 = refl;
       ten-bytes = refl;
       kind-11 = refl;
       first-offset-1 = refl;
-      nine-pins = refl;
+      too-wide = refl;
+      low-byte-8 = refl;
+      xor-of-three = refl;
       not-of-itself = refl;
     }

@@ -33,7 +33,7 @@ use Rattle.search.specs.FirstSplit.{Within}
 use Rattle.sweeps.specs.Splits.{branchOf, certificateFor, headFor, splitCloses, stepCount}
 use Rattle.splits.specs.declared.split.Split.{Split}
 
--- no kind has more than 8 pins
+-- no kind has more pins than the most that a gate may have
 rule-few : (k : ℕ) → k ≤ lastKind → ruleOf k .most ≤ mostPins
 unfolding ruleOf every
 rule-few k h = leb-true (ruleOf k .most) mostPins (every-at (λ k. leb (ruleOf k .most) mostPins) (suc lastKind) refl k (omega arith))
@@ -43,7 +43,7 @@ pins-few nb n e h =
     let f = facts nb (nodeCount nb) (pinCount nb) e in
     omega (arith, pins-length nb n, f .count-most n h, rule-few (kindOf nb n) (f .kind-known n h))
 
--- so the pin of a fault that exists has a number below 8, and is not written as the node itself is
+-- so the pin of a fault that exists has a number below that, and is not written as the node itself is
 pub site-few : (nb : List ℕ) (f : Fault) → reading nb ≡ sound (nodeCount nb) (pinCount nb) → faultExists (netOf nb) f ≡ true → (k : ℕ) → f .site ≡ Pin k → k < mostPins
 unfolding faultExists netOf
 site-few nb f e h k q = omega (arith, pins-few nb (f .node) e here, low)

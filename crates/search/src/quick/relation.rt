@@ -1,4 +1,4 @@
-// What the relation of a node at a frame concludes, in one pass over its pins.
+// What the relation of a node at a frame concludes, with few looks at its pins.
 use crate::quick::trail::take_value;
 use crate::quick::window::Window;
 use crate::quick::window::circuit_in;
@@ -13,18 +13,20 @@ use gates::negation;
 use values::byte_at;
 
 // The relation of a node at a frame. Place: where its pins stand in the netlist; circuit: the one that
-// they read in; row: where the values of their frame begin; out: where the node's own value stands.
+// they read in; stuck: whether one of them may be stuck there; row: where the values of their frame begin;
+// out: where the node's own value stands.
 struct Relation {
     node: u16,
     place: u32,
     circuit: Circuit,
+    stuck: bool,
     row: u32,
     out: usize,
     inverted: bool,
 }
 
-// The pins of an AND or OR: how many are unknown (2: two or more), the last unknown one, and whether
-// one has the controlling value.
+// The pins of an AND or OR that were looked at: how many are unknown (2: two or more), the unknown one that
+// was met last, and whether one has the controlling value.
 struct Pins {
     unknown: u8,
     last: u16,
@@ -78,18 +80,30 @@ fn count_pin(pins: Pins, value: u8, controlling: u8, pin: u16) -> Pins {
     }
 }
 
+// Whether the pins that were looked at say enough: how many more than two are unknown makes no difference.
+// A pin that was not looked at may have the controlling value. Its source settles the gate when its own
+// value is spread, but a stuck pin's value comes from no source.
+fn is_enough(pins: Pins, stuck: bool) -> bool {
+    pins.settled || (pins.unknown == 2 && !stuck)
+}
+
+// Looks at the pins, from the last on: values are mostly entered by rising place, and a gate's sources mostly
+// rise with its pins, so that unknown ones are met first.
 fn look_at_pins(netlist: &[u8], relation: Relation, controlling: u8, known: &[u8]) -> Pins {
-    let count = netlist::length_of(netlist, relation.node);
+    let stuck = relation.stuck;
+    let mut left = netlist::length_of(netlist, relation.node);
     let mut pins = Pins {
         unknown: 0,
         last: 0,
         settled: false,
     };
-    let mut pin: u16 = 0;
-    while pin < count {
-        let value = read_pin(netlist, relation, pin, known);
-        pins = count_pin(pins, value, controlling, pin);
-        pin += 1;
+    while 0 < left {
+        left -= 1;
+        let value = read_pin(netlist, relation, left, known);
+        pins = count_pin(pins, value, controlling, left);
+        if is_enough(pins, stuck) {
+            return pins;
+        }
     }
     pins
 }
@@ -119,7 +133,8 @@ fn force_pins(netlist: &[u8], relation: Relation, value: u8, known: &mut [u8], t
     }
 }
 
-// An AND or OR of which no pin has the controlling value, and some are unknown.
+// An AND or OR with unknown pins, of which none that was looked at has the controlling value. Where another
+// has it, a contradiction is met when its source is spread.
 fn use_output(
     netlist: &[u8],
     relation: Relation,
@@ -142,13 +157,20 @@ fn take_output(relation: Relation, value: u8, known: &mut [u8], trail: &mut [u16
     take_value(relation.out, value, known, trail);
 }
 
+// An AND or OR. A source that has got the controlling value settles it, and no pin need be looked at,
+// unless the one that it feeds may be stuck.
 fn use_gate(
     netlist: &[u8],
     relation: Relation,
     controlling: u8,
+    got: u8,
     known: &mut [u8],
     trail: &mut [u16],
 ) {
+    if got == controlling && !relation.stuck {
+        take_output(relation, controlling, known, trail);
+        return;
+    }
     let pins = look_at_pins(netlist, relation, controlling, known);
     if pins.settled {
         take_output(relation, controlling, known, trail);
@@ -206,18 +228,21 @@ fn relation_at(netlist: &[u8], window: Window, node: u16, frame: u8, inverted: b
         node,
         place: netlist::pins_place(netlist, node),
         circuit: circuit_in(window, pins_at),
+        stuck: window.fault.node == node && pins_at < window.c,
         row: row_of(window.n, pins_at),
         out: knowledge::place_of(window.n, node, frame as u16),
         inverted,
     }
 }
 
-// Takes what the relation of a node at a frame concludes.
+// Takes what the relation of a node at a frame concludes. Got: the value that a source of the node has just
+// got; UNKNOWN where none has, and the relation is used for another reason.
 pub(crate) fn use_relation(
     netlist: &[u8],
     window: Window,
     node: u16,
     frame: u8,
+    got: u8,
     known: &mut [u8],
     trail: &mut [u16],
 ) {
@@ -235,6 +260,7 @@ pub(crate) fn use_relation(
             netlist,
             relation,
             gates::controlling_value(gate),
+            got,
             known,
             trail,
         ),

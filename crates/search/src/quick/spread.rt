@@ -21,6 +21,7 @@ fn use_reader(
     window: Window,
     reader: u16,
     frame: u8,
+    got: u8,
     known: &mut [u8],
     trail: &mut [u16],
 ) {
@@ -31,7 +32,7 @@ fn use_reader(
         frame
     };
     if at < window.w {
-        use_relation(netlist, window, reader, at, known, trail);
+        use_relation(netlist, window, reader, at, got, known, trail);
     }
 }
 
@@ -41,6 +42,7 @@ fn use_readers(
     fan: &[u16],
     node: u16,
     frame: u8,
+    got: u8,
     known: &mut [u8],
     trail: &mut [u16],
 ) {
@@ -55,6 +57,7 @@ fn use_readers(
             window,
             word_at(fan, at as usize),
             frame,
+            got,
             known,
             trail,
         );
@@ -77,8 +80,9 @@ fn use_around(
     }
     let frame = ((place / n) % 256) as u8;
     let node = place % n;
-    use_relation(netlist, window, node, frame, known, trail);
-    use_readers(netlist, window, fan, node, frame, known, trail);
+    let got = byte_at(known, place as usize);
+    use_relation(netlist, window, node, frame, UNKNOWN, known, trail);
+    use_readers(netlist, window, fan, node, frame, got, known, trail);
 }
 
 // Spreads the values that the trail has from a place on, until nothing new follows or all stops.
@@ -125,7 +129,7 @@ fn use_node(netlist: &[u8], window: Window, node: u16, known: &mut [u8], trail: 
     let end = window.w;
     let mut frame: u8 = 0;
     while frame < end {
-        use_relation(netlist, window, node, frame, known, trail);
+        use_relation(netlist, window, node, frame, UNKNOWN, known, trail);
         frame += 1;
     }
 }

@@ -7,11 +7,11 @@ use Rattle.search.proofs.quick.spread.use_readers.Statement.{statement}
 use Rattle.search.proofs.quick.spread.use_readers.Tie as tie
 
 abbrev Inv-loop : tie.InvT-loop
-Inv-loop netlist window fan node frame known₀ trail₀ end at₀ known trail at =
+Inv-loop netlist window fan node frame got known₀ trail₀ end at₀ known trail at =
     (length known ≡ length known₀) × (length trail ≡ length trail₀)
 
 abbrev μ-loop : tie.MeasureT-loop
-μ-loop netlist window fan node frame known₀ trail₀ end at₀ known trail at = end - at
+μ-loop netlist window fan node frame got known₀ trail₀ end at₀ known trail at = end - at
 
 add-word-at : tie.Need-add-word-at Inv-loop μ-loop
 add-word-at c = search needs
