@@ -3,7 +3,9 @@
 use leverpeach_tests::cases::{run, Tally};
 use leverpeach_tests::circuits::{damaged, raw, sound, structured, Draft};
 use leverpeach_tests::compare;
-use leverpeach_tests::model::kind::{AND, BUFFER, FLIP_FLOP, INPUT, NOR, NOT, OUTPUT, XNOR, XOR};
+use leverpeach_tests::model::kind::{
+    AND, BUFFER, FLIP_FLOP, INPUT, MOST_PINS, NOR, NOT, OUTPUT, XNOR, XOR,
+};
 use leverpeach_tests::native::sound_number;
 
 const REFUSALS: [u64; 7] = [1, 2, 3, 4, 5, 6, 7];
@@ -175,12 +177,14 @@ fn pairs_that_only_wrapped_sums_would_pass() {
 #[test]
 fn every_kind_with_every_pin_count() {
     for kind in 0..=XNOR {
-        for pins in 0..=20 {
+        // The whole number counts: 258, say, is not the 2 of its low byte.
+        let many = [255, 256, 257, 258, 256 + 8, 320, 512 + 2, 16_384];
+        for pins in (0..=70).chain(many) {
             let draft = Draft::of(&[(INPUT, &[]), (kind, &vec![0; pins])]);
             let fits = match kind {
                 INPUT => pins == 0,
                 OUTPUT..=NOT => pins == 1,
-                AND..=NOR => (2..=8).contains(&pins),
+                AND..=NOR => (2..=MOST_PINS).contains(&pins),
                 _ => pins == 2,
             };
             let expected = if fits { sound_number(2, pins) } else { 6 };

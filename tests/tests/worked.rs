@@ -23,8 +23,8 @@ fn examples_of_the_refusals_of_a_netlist() {
     assert_eq!(compare::read(&[1, 0, 0, 0, 0, 0, 0, 0, 0, 0]), 3); // 10 bytes
     assert_eq!(compare::read(&[1, 0, 0, 0, 11, 0, 0, 0, 0]), 4); // kind 11
     assert_eq!(compare::read(&[1, 0, 0, 0, 0, 1, 0, 0, 0]), 5); // offset 1
-    let nine = Draft::of(&[(0, &[]), (5, &[0; 9])]);
-    assert_eq!(compare::read(&nine.to_bytes()), 6);
+    let wide = Draft::of(&[(0, &[]), (5, &[0; 65])]);
+    assert_eq!(compare::read(&wide.to_bytes()), 6);
     let not_of_itself = Draft::of(&[(0, &[]), (0, &[]), (4, &[2])]);
     assert_eq!(compare::read(&not_of_itself.to_bytes()), 7);
 }
@@ -91,11 +91,11 @@ fn a_clock_step_of_p1() {
 }
 
 #[test]
-fn p9_an_and_of_eight_pins_is_sound_and_of_nine_is_not() {
-    let eight = Draft::of(&[(0, &[]), (5, &[0; 8])]).to_bytes();
-    assert_eq!(compare::read(&eight), 4_294_967_296 + 65_536 * 2 + 8);
-    let nine = Draft::of(&[(0, &[]), (5, &[0; 9])]).to_bytes();
-    assert_eq!(compare::read(&nine), 6);
+fn p9_an_and_of_64_pins_is_sound_and_of_65_is_not() {
+    let widest = Draft::of(&[(0, &[]), (5, &[0; 64])]).to_bytes();
+    assert_eq!(compare::read(&widest), 4_294_967_296 + 65_536 * 2 + 64);
+    let wider = Draft::of(&[(0, &[]), (5, &[0; 65])]).to_bytes();
+    assert_eq!(compare::read(&wider), 6);
 }
 
 #[test]

@@ -98,13 +98,15 @@ fn p8_the_widest_window() {
 }
 
 #[test]
-fn p9_an_and_of_8_pins_is_sound_and_of_9_is_not() {
-    let netlist = |pins| Draft::of(&[(0, &[]), (5, &[0; 9][..pins]), (1, &[1])]).to_bytes();
-    // As with two pins: seven others read what the stuck one would.
-    let (answer, certificate) = find(&netlist(8), [1, 7, 1], [0, 0]);
-    assert_eq!(answer, FOUND_0 + 53);
-    assert_eq!(certificate[..9], [1, 0, 7, 1, 0, 0, 0, 0, 0]);
-    assert_eq!(find(&netlist(9), [1, 7, 1], [0, 0]).0, 6);
+fn p9_a_pin_of_an_and_of_64_is_found_and_an_and_of_65_is_refused() {
+    let netlist = |pins| Draft::of(&[(0, &[]), (5, &[0; 65][..pins]), (1, &[1])]).to_bytes();
+    // As with two pins: the others read what the stuck one would.
+    for last in [7, 8, 63] {
+        let (answer, certificate) = find(&netlist(last + 1), [1, last as u16, 1], [0, 0]);
+        assert_eq!(answer, FOUND_0 + 53);
+        assert_eq!(certificate[..9], [1, 0, last as u8, 1, 0, 0, 0, 0, 0]);
+    }
+    assert_eq!(find(&netlist(65), [1, 63, 1], [0, 0]).0, 6);
 }
 
 #[test]

@@ -15,12 +15,15 @@ pub const XNOR: u8 = 10;
 /// The greatest kind number there is.
 pub const LAST: u8 = XNOR;
 
+/// The most pins of an AND, NAND, OR or NOR.
+pub const MOST_PINS: usize = 64;
+
 /// Whether a node of this kind may have this many pins.
 pub fn takes(kind: u8, pins: usize) -> bool {
     let (fewest, most) = match kind {
         INPUT => (0, 0),
         OUTPUT..=NOT => (1, 1),
-        AND..=NOR => (2, 8),
+        AND..=NOR => (2, MOST_PINS),
         XOR..=XNOR => (2, 2),
         _ => return false,
     };
@@ -67,20 +70,37 @@ mod tests {
 
     #[test]
     fn wide_gates_look_at_every_pin() {
-        for odd_one in 0..8 {
-            let one_zero = (0..8).map(|pin| u8::from(pin != odd_one));
-            let one_one = (0..8).map(|pin| u8::from(pin == odd_one));
-            assert_eq!(value(AND, one_zero.clone()), 0);
-            assert_eq!(value(NAND, one_zero), 1);
-            assert_eq!(value(OR, one_one.clone()), 1);
-            assert_eq!(value(NOR, one_one), 0);
+        for pins in [2, 8, 9, 63, MOST_PINS] {
+            let outputs = |read: &dyn Fn(usize) -> bool| {
+                [AND, NAND, OR, NOR].map(|kind| value(kind, (0..pins).map(|pin| read(pin).into())))
+            };
+            assert_eq!(outputs(&|_| true), [1, 0, 1, 0]);
+            assert_eq!(outputs(&|_| false), [0, 1, 0, 1]);
+            for odd_one in 0..pins {
+                assert_eq!(outputs(&|pin| pin != odd_one)[..2], [0, 1]);
+                assert_eq!(outputs(&|pin| pin == odd_one)[2..], [1, 0]);
+            }
+        }
+    }
+
+    #[test]
+    fn only_four_kinds_take_many_pins() {
+        for kind in INPUT..=LAST {
+            let most = (0..1_000).filter(|pins| takes(kind, *pins)).max();
+            let expected = match kind {
+                INPUT => 0,
+                OUTPUT..=NOT => 1,
+                AND..=NOR => 64,
+                _ => 2,
+            };
+            assert_eq!(most, Some(expected), "kind {kind}");
         }
     }
 
     #[test]
     fn unknown_kinds_take_no_pin_count() {
         for kind in LAST + 1..=255 {
-            assert!((0..=16).all(|pins| !takes(kind, pins)));
+            assert!((0..=MOST_PINS).all(|pins| !takes(kind, pins)));
         }
     }
 }

@@ -2,9 +2,10 @@
 
 use super::kind;
 
-/// The greatest node count and the greatest pin count of a sound netlist.
+/// The greatest node count of a sound netlist, and the greatest count of all
+/// pins together.
 pub const MOST_NODES: usize = 4_096;
-pub const MOST_PINS: usize = 16_384;
+pub const MOST_PINS_IN_ALL: usize = 16_384;
 
 /// Bytes before the records, of a record, and of a pin.
 pub const HEAD: usize = 4;
@@ -72,7 +73,7 @@ impl<'a> Netlist<'a> {
         };
         let nodes = number([head[0], head[1]]);
         let pins = number([head[2], head[3]]);
-        if nodes == 0 || nodes > MOST_NODES || pins > MOST_PINS {
+        if nodes == 0 || nodes > MOST_NODES || pins > MOST_PINS_IN_ALL {
             return Err(2);
         }
         if rest.len() != RECORD * nodes + PIN * pins {
