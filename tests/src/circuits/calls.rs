@@ -3,7 +3,7 @@
 
 use super::Draft;
 use crate::model::certificate::{HEAD, STEP};
-use crate::model::{kind, Fault};
+use crate::model::{kind, Fault, Site};
 use crate::native::FaultBytes;
 use crate::random::Random;
 use std::array;
@@ -12,6 +12,25 @@ use std::array;
 pub fn fault(random: &mut Random, draft: &Draft) -> Fault {
     let bytes = fault_bytes(random, draft);
     bytes.meaning().expect("these bytes mean a fault")
+}
+
+/// A fault of the gate that has the most pins: of the node itself, of any pin, or
+/// of one whose source no other pin reads.
+pub fn fault_of_widest(random: &mut Random, draft: &Draft) -> Fault {
+    let nodes = 0..draft.nodes.len();
+    let node = nodes.max_by_key(|node| draft.nodes[*node].sources.len());
+    let node = node.expect("there is a node");
+    let sources = &draft.nodes[node].sources;
+    let readers = |source: u16| sources.iter().filter(|other| **other == source).count();
+    let alone = (0..sources.len()).filter(|pin| readers(sources[*pin]) == 1);
+    let alone: Vec<usize> = alone.collect();
+    let site = match random.below(4) {
+        0 => Site::Whole,
+        1 | 2 if !alone.is_empty() => Site::Pin(random.pick(&alone) as u8),
+        _ => Site::Pin(random.below(sources.len()) as u8),
+    };
+    let (node, u) = (node as u16, random.bit());
+    Fault { node, site, u }
 }
 
 /// A fault that the netlist does not have, or whose u is no value.
@@ -43,7 +62,7 @@ pub fn no_fault(random: &mut Random) -> FaultBytes {
     FaultBytes {
         faulted: 0,
         node: random.pick(&[0, 1, 4_096, 65_535]),
-        site: random.pick(&[0, 1, 8, 254, 255]),
+        site: random.pick(&[0, 1, 8, 63, 64, 254, 255]),
         u: random.pick(&[0, 1, 2, 255]),
     }
 }
@@ -56,7 +75,8 @@ pub fn foreign_fault_bytes(random: &mut Random, draft: &Draft) -> FaultBytes {
     let pins = draft.nodes[usize::from(fault.node)].sources.len() as u8;
     match random.below(3) {
         0 => fault.node = random.pick(&[nodes, nodes + 1, 4_096, 32_768, 65_535]),
-        1 => fault.site = random.pick(&[pins, pins + 1, 9, 128, 254]),
+        // No gate has a pin 64.
+        1 => fault.site = random.pick(&[pins, pins + 1, 64, 128, 254]),
         _ => fault.u = random.pick(&[2, 3, 128, 254, 255]),
     }
     fault

@@ -2,6 +2,7 @@
 
 use super::{sound, Draft};
 use crate::model::kind;
+use crate::model::netlist::MOST_PINS_IN_ALL;
 use crate::random::Random;
 
 /// A sound netlist with every damage of `numbers` done to it, one for each
@@ -38,18 +39,21 @@ pub fn with(random: &mut Random, nodes: usize, numbers: &[u8]) -> Vec<u8> {
     bytes
 }
 
-/// Gives a node more or fewer pins than its kind takes.
+/// Gives a node more or fewer pins than its kind takes, some of them so many that
+/// the low byte alone would fit. All pins together stay within their limit, since
+/// the refusal would be 2 otherwise.
 fn unfit_pin_count(random: &mut Random, draft: &mut Draft) {
     let chosen = random.below(draft.nodes.len());
     let node = &mut draft.nodes[chosen];
     let unfit: &[usize] = match node.kind {
-        kind::INPUT => &[1, 2, 9],
-        kind::OUTPUT..=kind::NOT => &[0, 2, 3],
-        kind::AND..=kind::NOR => &[0, 1, 9, 10],
-        _ => &[0, 1, 3, 8],
+        kind::INPUT => &[1, 2, 9, 64, 256],
+        kind::OUTPUT..=kind::NOT => &[0, 2, 3, 64, 257],
+        kind::AND..=kind::NOR => &[0, 1, 65, 66, 255, 256 + 8],
+        _ => &[0, 1, 3, 8, 9, 64, 258],
     };
     let count = random.pick(unfit);
     node.sources.resize(count, 0);
+    assert!(draft.pin_count() <= MOST_PINS_IN_ALL);
 }
 
 /// Lets one pin name no node, an output, or a node that comes too late. Where

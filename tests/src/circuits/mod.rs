@@ -15,3 +15,9 @@ pub mod structured;
 pub mod worked;
 
 pub use draft::{Draft, Node};
+
+use crate::model::kind;
+
+/// Pin counts of wide gates: one more than gates had before request 1, some
+/// between, and as many as there may be.
+pub const WIDE: [usize; 4] = [9, 16, 63, kind::MOST_PINS];

@@ -68,7 +68,7 @@ fn other_subjects(netlist: &Netlist, argument: &Argument) -> Vec<Vec<u8>> {
         mutants.push(changed(argument, |it| it.subject.fault.node = node as u16));
         mutants.push(changed(argument, |it| it.subject.split.node = node));
     }
-    for site in (0..9).chain([254, 255]) {
+    for site in (0..10).chain([62, 63, 64, 65, 254, 255]) {
         let site = Site::from_byte(site);
         mutants.push(changed(argument, |it| it.subject.fault.site = site));
     }

@@ -17,44 +17,56 @@ pub fn of_length(random: &mut Random, length: usize) -> Vec<u8> {
     bytes
 }
 
+/// Pin counts about the most that a gate takes, and such as would fit by their
+/// low byte alone.
+const EDGES: [u16; 8] = [8, 9, 63, 64, 65, 66, 255, 256 + 8];
+
 /// A few nodes with a fitting length, otherwise small numbers everywhere: most
-/// refusals are near, and so is a sound netlist.
+/// refusals are near, and so is a sound netlist. Rarely a node has many pins.
 pub fn shaped(random: &mut Random) -> Vec<u8> {
-    let nodes = random.between(1, 4);
+    let nodes = random.between(1, 4) as u16;
     let mut offset = 0;
     let mut records = Vec::new();
     for _ in 0..nodes {
         let kinds = if random.chance(20) { 12 } else { 11 };
         let kind = random.below(kinds) as u8;
-        let usual = match kind {
-            0 => 0,
-            1..=4 => 1,
-            _ => 2,
-        };
-        let length = if random.chance(90) {
-            usual
-        } else {
-            random.below(4) as u8
-        };
+        let length = pin_count(random, kind);
         let written = if random.chance(97) {
             offset
         } else {
-            random.below(6) as u8
+            random.below(6) as u16
         };
-        records.extend([kind, written, 0, length, 0]);
+        records.push(kind);
+        records.extend([written, length].map(u16::to_le_bytes).as_flattened());
         offset += length;
     }
     let pins = if random.chance(97) {
         offset
     } else {
-        random.below(8) as u8
+        random.below(8) as u16
     };
-    let mut bytes = vec![nodes as u8, 0, pins, 0];
+    let mut bytes = [nodes, pins].map(u16::to_le_bytes).concat();
     bytes.extend(records);
+    // Of many pins hardly any is drawn: one that names what it must not is enough
+    // for a refusal.
+    let drawn = if pins < 8 { 100 } else { 1 };
     for _ in 0..pins {
-        bytes.extend([random.below(nodes + 1) as u8, 0]);
+        let limit = if random.chance(drawn) { nodes + 1 } else { 1 };
+        let source = random.below(limit.into()) as u16;
+        bytes.extend(source.to_le_bytes());
     }
     bytes
+}
+
+/// A pin count for a node of this kind: mostly one that fits.
+fn pin_count(random: &mut Random, kind: u8) -> u16 {
+    match (random.below(100), kind) {
+        (0..=1, _) => random.pick(&EDGES),
+        (2..=9, _) => random.below(4) as u16,
+        (_, 0) => 0,
+        (_, 1..=4) => 1,
+        _ => 2,
+    }
 }
 
 /// A sound netlist with one to three bytes changed.

@@ -1,6 +1,6 @@
 //! Circuits so small that every state and every input can be tried.
 
-use super::Draft;
+use super::{Draft, WIDE};
 use crate::model::kind;
 use crate::random::Random;
 
@@ -30,11 +30,39 @@ pub fn mixed(random: &mut Random) -> Draft {
             kind::BUFFER | kind::NOT => vec![random.below(node) as u16],
             kind::XOR | kind::XNOR => some_of(random, node, 2),
             _ => {
-                let count = random.pick(&[2, 2, 2, 3, 4, 8]);
+                let count = pins_of_gate(random);
                 some_of(random, node, count)
             }
         };
         draft.push(kind, &sources);
+    }
+    add_outputs(random, &mut draft);
+    draft
+}
+
+/// A gate of many pins, which read a few inputs, flip-flops and what hangs on
+/// them; perhaps gates behind it; and outputs. Often one of the pins reads a node
+/// that no other reads, and cannot be spared, or not in the first clock: many of
+/// the flip-flops are fed by one input.
+pub fn of_wide_gate(random: &mut Random) -> Draft {
+    let mut draft = Draft::inputs(random.between(1, MOST_INPUTS));
+    for _ in 0..random.below(MOST_FLIP_FLOPS + 1) {
+        let node = draft.nodes.len();
+        match random.below(4) {
+            0 => draft.push(kind::NOT, &some_of(random, node, 1)),
+            1 => draft.push(kind::FLIP_FLOP, &some_of(random, node + 1, 1)),
+            _ => draft.push(kind::FLIP_FLOP, &[0]),
+        }
+    }
+    let nodes = draft.nodes.len();
+    let (read, pins) = (random.between(1, nodes), random.pick(&WIDE));
+    let mut sources = some_of(random, read, pins);
+    sources[random.below(pins)] = random.between(read - 1, nodes - 1) as u16;
+    draft.push(wide_gate(random), &sources);
+    for _ in 0..random.below(3) {
+        let node = draft.nodes.len();
+        let sources = [node as u16 - 1, random.below(node) as u16];
+        draft.push(gate(random), &sources);
     }
     add_outputs(random, &mut draft);
     draft
@@ -141,6 +169,15 @@ fn add_outputs(random: &mut Random, draft: &mut Draft) {
             _ => random.below(nodes),
         };
         draft.push(kind::OUTPUT, &[source as u16]);
+    }
+}
+
+/// Pins of a gate: mostly few. Rarely many, which then read a few nodes again and
+/// again.
+fn pins_of_gate(random: &mut Random) -> usize {
+    match random.below(50) {
+        0 => random.pick(&WIDE),
+        _ => random.pick(&[2, 2, 2, 3, 4, 8]),
     }
 }
 

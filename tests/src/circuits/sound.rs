@@ -1,7 +1,8 @@
 //! Sound netlists at random, with a mix of kinds as in real circuits.
 
-use super::{Draft, Node};
+use super::{Draft, Node, WIDE};
 use crate::model::kind;
+use crate::model::netlist::{MOST_NODES, MOST_PINS_IN_ALL};
 use crate::random::Random;
 
 /// The most pins of the gates that pins are spread over. It stays what it is:
@@ -9,18 +10,26 @@ use crate::random::Random;
 /// which know no wider gates.
 const MOST_SPREAD: usize = 8;
 
-/// A sound netlist of this many nodes. Wide gates are rarer than narrow ones.
+/// A sound netlist of this many nodes. Wide gates are rarer than narrow ones,
+/// and the widest are rare.
 pub fn random(random: &mut Random, nodes: usize) -> Draft {
     let kinds = kinds(random, nodes);
     let counts: Vec<usize> = kinds
         .iter()
         .map(|kind| match *kind {
-            kind::AND..=kind::NOR if random.chance(60) => random.between(2, 3),
-            kind::AND..=kind::NOR => random.between(2, 8),
+            kind if is_wide(kind) => pins_of_gate(random),
             kind => fewest_pins(kind),
         })
         .collect();
     connect(random, &kinds, &counts)
+}
+
+fn pins_of_gate(random: &mut Random) -> usize {
+    match random.below(100) {
+        0 => random.pick(&WIDE),
+        1..=39 => random.between(2, 8),
+        _ => random.between(2, 3),
+    }
 }
 
 /// A sound netlist of just so many nodes and pins. There must be room for the
@@ -41,6 +50,23 @@ pub fn of_size(random: &mut Random, nodes: usize, pins: usize) -> Draft {
             total += 1;
         }
     }
+    connect(random, &kinds, &counts)
+}
+
+/// A sound netlist of as many nodes and pins as there may be, all of the pins on
+/// gates with as many as a gate may have. Such a gate stands behind every 15
+/// inputs; its pins name any smaller nodes, gates among them.
+pub fn of_widest_gates(random: &mut Random) -> Draft {
+    let gates = MOST_PINS_IN_ALL / kind::MOST_PINS;
+    let group = MOST_NODES / gates;
+    let nodes = (0..MOST_NODES).map(|node| match (node + 1) % group {
+        0 => {
+            let gate = random.pick(&[kind::AND, kind::NAND, kind::OR, kind::NOR]);
+            (gate, kind::MOST_PINS)
+        }
+        _ => (kind::INPUT, 0),
+    });
+    let (kinds, counts): (Vec<u8>, Vec<usize>) = nodes.unzip();
     connect(random, &kinds, &counts)
 }
 
@@ -118,6 +144,20 @@ fn source(random: &mut Random, kinds: &[u8], node: usize) -> u16 {
 mod tests {
     use super::*;
     use crate::checksum::Checksum;
+
+    #[test]
+    fn the_widest_gates_have_all_the_pins() {
+        let draft = of_widest_gates(&mut Random::new(1));
+        assert_eq!((draft.nodes.len(), draft.pin_count()), (4_096, 16_384));
+        for kind in kind::AND..=kind::NOR {
+            let gates = draft.nodes.iter().filter(|node| node.kind == kind);
+            let counts: Vec<usize> = gates.map(|gate| gate.sources.len()).collect();
+            assert!(counts.len() >= 30, "{} of kind {kind}", counts.len());
+            assert!(counts.iter().all(|count| *count == 64));
+        }
+        let gates = draft.nodes.iter().filter(|node| node.kind != kind::INPUT);
+        assert_eq!(gates.count(), 256);
+    }
 
     #[test]
     fn netlists_of_a_size_stay_the_same() {

@@ -53,6 +53,16 @@ pub fn settled_chain(nodes: u16) -> Draft {
     draft
 }
 
+/// An input, and so many gates with so many pins, all of them on it; AND, NAND,
+/// OR and NOR in turn.
+pub fn gates_on_one_input(gates: usize, pins: usize) -> Draft {
+    let mut draft = Draft::inputs(1);
+    for kind in (kind::AND..=kind::NOR).cycle().take(gates) {
+        draft.push(kind, &vec![0; pins]);
+    }
+    draft
+}
+
 fn alike(nodes: u16, kind: u8, sources: impl Fn(u16) -> Vec<u16>) -> Draft {
     let mut draft = Draft::default();
     for node in 0..nodes {
