@@ -73,7 +73,10 @@ fn large_netlists_and_large_damaged_ones() {
     run("large", 1_600, |case, random| {
         let damage = case % 8;
         if damage == 0 {
-            let draft = sound::of_size(random, 4_096, 16_384);
+            let draft = match case % 16 {
+                0 => sound::of_size(random, 4_096, 16_384),
+                _ => sound::of_widest_gates(random),
+            };
             let expected = sound_number(4_096, 16_384);
             assert_eq!(compare::read(&draft.to_bytes()), expected);
         } else {
@@ -105,16 +108,16 @@ fn one_node_or_one_pin_too_many() {
     assert_eq!(read_inputs(4_097), 2);
     assert_eq!(read_inputs(0), 2);
 
-    // 16,384 pins on 2,048 gates of eight, and one gate of two more.
-    let mut draft = Draft::inputs(1);
-    for _ in 0..2_048 {
-        draft.push(AND, &[0; 8]);
+    // 16,384 pins on gates of eight or of 64, and one buffer more.
+    for (gates, pins, length) in [(2_048, 8, 43_017), (256, MOST_PINS, 34_057)] {
+        let mut draft = structured::gates_on_one_input(gates, pins);
+        assert_eq!(draft.to_bytes().len(), length);
+        let expected = sound_number(gates + 1, 16_384);
+        assert_eq!(compare::read(&draft.to_bytes()), expected);
+        draft.push(BUFFER, &[0]);
+        assert_eq!(draft.pin_count(), 16_385);
+        assert_eq!(compare::read(&draft.to_bytes()), 2);
     }
-    let expected = sound_number(2_049, 16_384);
-    assert_eq!(compare::read(&draft.to_bytes()), expected);
-    draft.push(NOT, &[0]);
-    assert_eq!(draft.pin_count(), 16_385);
-    assert_eq!(compare::read(&draft.to_bytes()), 2);
 }
 
 #[test]

@@ -1,9 +1,9 @@
 //! The simulator, library against model: every answer, every lent byte.
 
 use leverpeach_tests::cases::{run, Tally};
-use leverpeach_tests::circuits::{calls, damaged, raw, sound, structured, Draft};
+use leverpeach_tests::circuits::{calls, damaged, raw, small, sound, structured, Draft};
 use leverpeach_tests::compare;
-use leverpeach_tests::model::kind::{AND, BUFFER, FLIP_FLOP, INPUT, NOR, OUTPUT, XOR};
+use leverpeach_tests::model::kind::{AND, BUFFER, FLIP_FLOP, INPUT, MOST_PINS, NOR, OUTPUT, XOR};
 use leverpeach_tests::native::FaultBytes;
 use leverpeach_tests::random::Random;
 
@@ -131,14 +131,17 @@ fn bytes_shaped_like_a_netlist() {
 
 #[test]
 fn every_fault_that_can_be_written_near_a_circuit() {
-    run("all faults", 40, |_, random| {
-        let draft = sound::random(random, 12);
+    run("all faults", 40, |case, random| {
+        let draft = match case % 2 {
+            0 => sound::random(random, 12),
+            _ => small::of_wide_gate(random),
+        };
         let netlist = draft.to_bytes();
         let first = calls::first(random, &draft);
         for node in (0..14).chain([255, 256, 4_096, 65_535]) {
-            for site in (0..10).chain([127, 128, 254, 255]) {
+            for site in (0..10).chain([15, 16, 62, 63, 64, 65, 127, 128, 254, 255]) {
                 for u in [0, 1, 2, 255] {
-                    let second = random.bytes(12);
+                    let second = random.bytes(first.len());
                     let fault = FaultBytes::new(node, site, u);
                     let (answer, _, _) =
                         compare::simulate(random, &netlist, fault, &first, &second);
@@ -154,8 +157,11 @@ fn every_fault_that_can_be_written_near_a_circuit() {
 
 #[test]
 fn the_largest_circuits() {
-    run("largest", 400, |_, random| {
-        let draft = sound::of_size(random, 4_096, 16_384);
+    run("largest", 400, |case, random| {
+        let draft = match case % 4 {
+            0 => sound::of_widest_gates(random),
+            _ => sound::of_size(random, 4_096, 16_384),
+        };
         let fault = calls::fault_bytes(random, &draft);
         step(random, &draft, fault);
     });
@@ -213,27 +219,97 @@ fn a_counter_counts() {
     }
 }
 
-#[test]
-fn wide_gates_under_every_input() {
-    for pins in 2..=8_u16 {
-        let mut draft = Draft::inputs(pins.into());
-        let sources: Vec<u16> = (0..pins).collect();
+/// Inputs, and a gate of each kind that may have many pins, each of them on an
+/// input of its own.
+struct WideGates {
+    pins: usize,
+    netlist: Vec<u8>,
+    random: Random,
+}
+
+impl WideGates {
+    fn new(pins: usize) -> Self {
+        let mut draft = Draft::inputs(pins);
+        let sources: Vec<u16> = (0..pins as u16).collect();
         for kind in AND..=NOR {
             draft.push(kind, &sources);
         }
-        let netlist = draft.to_bytes();
-        let mut random = Random::new(pins.into());
-        for inputs in 0..1_u32 << pins {
-            let mut first: Vec<u8> = (0..pins).map(|pin| (inputs >> pin & 1) as u8).collect();
-            let (all, any) = (inputs + 1 == 1 << pins, inputs != 0);
-            first.extend([9; 4]);
-            let second = random.bytes(first.len());
-            let fault = FaultBytes::NONE;
-            let (answer, seen, _) =
-                compare::simulate(&mut random, &netlist, fault, &first, &second);
-            assert_eq!(answer, 0);
-            let expected = [all, !all, any, !any].map(u8::from);
-            assert_eq!(seen[usize::from(pins)..], expected);
+        WideGates {
+            pins,
+            netlist: draft.to_bytes(),
+            random: Random::new(pins as u64),
+        }
+    }
+
+    /// The input bits when all are 1.
+    fn all(&self) -> u64 {
+        u64::MAX >> (64 - self.pins)
+    }
+
+    /// What the four gates are seen at under these input bits.
+    fn seen(&mut self, inputs: u64, fault: FaultBytes) -> Vec<u8> {
+        let mut first: Vec<u8> = (0..self.pins)
+            .map(|pin| (inputs >> pin & 1) as u8)
+            .collect();
+        first.extend([9; 4]);
+        let second = self.random.bytes(first.len());
+        let (random, netlist) = (&mut self.random, &self.netlist);
+        let (answer, mut seen, _) = compare::simulate(random, netlist, fault, &first, &second);
+        assert_eq!(answer, 0);
+        seen.split_off(self.pins)
+    }
+
+    /// Steps the gates under these input bits, and looks at their values.
+    fn look_at(&mut self, inputs: u64) {
+        let (all, any) = (inputs == self.all(), inputs != 0);
+        let expected = [all, !all, any, !any].map(u8::from);
+        assert_eq!(self.seen(inputs, FaultBytes::NONE), expected, "{inputs:x}");
+    }
+}
+
+#[test]
+fn wide_gates_under_every_input() {
+    for pins in 2..=9 {
+        let mut gates = WideGates::new(pins);
+        for inputs in 0..=gates.all() {
+            gates.look_at(inputs);
+        }
+    }
+}
+
+#[test]
+fn the_widest_gates_under_all_but_one_and_under_some_inputs() {
+    for pins in [9, 16, 33, 63, MOST_PINS] {
+        let mut gates = WideGates::new(pins);
+        let all = gates.all();
+        gates.look_at(all);
+        gates.look_at(0);
+        for pin in 0..pins {
+            gates.look_at(1 << pin);
+            gates.look_at(all ^ 1 << pin);
+        }
+        for _ in 0..1_000 {
+            let inputs = gates.random.word() & all;
+            gates.look_at(inputs);
+        }
+    }
+}
+
+#[test]
+fn every_pin_of_the_widest_gates_stuck() {
+    for pins in [9, 16, 33, 63, MOST_PINS] {
+        let mut gates = WideGates::new(pins);
+        // The value that decides nothing while all pins read it.
+        for (gate, neutral) in [1, 1, 0, 0].into_iter().enumerate() {
+            let same = if neutral == 1 { gates.all() } else { 0 };
+            for pin in 0..pins {
+                let fault = |u| FaultBytes::new((pins + gate) as u16, pin as u8, u);
+                let but_one = same ^ 1 << pin;
+                let decided = gates.seen(but_one, FaultBytes::NONE)[gate];
+                assert_eq!(gates.seen(same, fault(1 - neutral))[gate], decided);
+                assert_eq!(gates.seen(same, fault(neutral))[gate], 1 - decided);
+                assert_eq!(gates.seen(but_one, fault(neutral))[gate], 1 - decided);
+            }
         }
     }
 }
