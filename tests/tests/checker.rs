@@ -28,10 +28,25 @@ fn check_in_just_enough(random: &mut Random, netlist: &[u8], certificate: &[u8])
 
 /// A small circuit with a certificate found for a fault of it.
 fn found(random: &mut Random) -> (Vec<u8>, Vec<u8>) {
+    found_for(random, small::any, calls::fault)
+}
+
+/// A small circuit with a certificate found for a fault of a wide gate.
+fn found_for_wide_gate(random: &mut Random) -> (Vec<u8>, Vec<u8>) {
+    found_for(random, small::of_wide_gate, calls::fault_of_widest)
+}
+
+/// A circuit and a certificate found for a fault of it, both drawn until there is
+/// one.
+fn found_for(
+    random: &mut Random,
+    draw: fn(&mut Random) -> Draft,
+    draw_fault: fn(&mut Random, &Draft) -> Fault,
+) -> (Vec<u8>, Vec<u8>) {
     loop {
-        let draft = small::any(random);
+        let draft = draw(random);
         let netlist = draft.to_bytes();
-        let fault = calls::fault(random, &draft);
+        let fault = draw_fault(random, &draft);
         let (b, f) = (random.below(4) as u8, random.below(3) as u8);
         if let Some(certificate) = certificates::found(None, &netlist, fault, b, f) {
             return (netlist, certificate);
@@ -103,6 +118,20 @@ fn certificates_altered_in_every_field() {
     });
     tally.assert_met(&[0, 8, 9, 10, 11, 13, 14, 15], 500);
     assert!(tally.total() >= 50_000, "only {} calls", tally.total());
+}
+
+#[test]
+fn certificates_for_wide_gates_altered_in_every_field() {
+    let mut tally = Tally::default();
+    run("wide mutants", 60, |_, random| {
+        let (netlist, certificate) = found_for_wide_gate(random);
+        let answer = check_in_just_enough(random, &netlist, &certificate);
+        assert_eq!(answer, accepted_number(certificate[4]));
+        for mutant in mutants::all(random, &netlist, &certificate) {
+            tally.count(check(random, &netlist, &mutant));
+        }
+    });
+    tally.assert_met(&[0, 8, 9, 10, 11, 13, 14, 15], 100);
 }
 
 /// A certificate with every damage of `numbers` done to it, one for each of 8

@@ -4,11 +4,11 @@
 
 use leverpeach_tests::cases::run;
 use leverpeach_tests::circuits::calls::{self, Request};
-use leverpeach_tests::circuits::{certificates, mutants, small};
+use leverpeach_tests::circuits::{certificates, mutants, small, Draft};
 use leverpeach_tests::claim::Claim;
 use leverpeach_tests::model::certificate::Certificate;
 use leverpeach_tests::model::checker::check_in_trap;
-use leverpeach_tests::model::{Checked, Fault, Trap};
+use leverpeach_tests::model::{Checked, Fault, Site, Trap};
 use leverpeach_tests::native::{self, accepted_number};
 use leverpeach_tests::random::Random;
 use std::collections::BTreeMap;
@@ -27,10 +27,24 @@ struct Subject {
 impl Subject {
     fn new(random: &mut Random) -> Self {
         let draft = small::any(random);
+        let fault = calls::fault(random, &draft);
+        Subject::of(&draft, fault)
+    }
+
+    /// A gate of more than eight pins, with one of its faults.
+    fn of_wide_gate(random: &mut Random) -> Self {
+        let draft = small::of_wide_gate(random);
+        let fault = calls::fault_of_widest(random, &draft);
+        let pins = draft.nodes[usize::from(fault.node)].sources.len();
+        assert!(pins > 8, "only {pins} pins");
+        Subject::of(&draft, fault)
+    }
+
+    fn of(draft: &Draft, fault: Fault) -> Self {
         Subject {
             netlist: draft.to_bytes(),
             nodes: draft.nodes.len(),
-            fault: calls::fault(random, &draft),
+            fault,
         }
     }
 
@@ -157,6 +171,70 @@ fn what_the_library_finds_is_true() {
     });
     println!("{found} found");
     assert!(found >= 2_000, "only {found} found");
+}
+
+/// What became of the faults of wide gates.
+#[derive(Debug, Default)]
+struct Wide {
+    /// Marked with c 0, and with a greater one. The promise holds for each.
+    marked: u64,
+    marked_later: u64,
+    /// Marked, and on a pin that only gates of more than eight pins have.
+    marked_far: u64,
+    /// Not marked, and rightly: the promise holds for no c that was tried.
+    unmarked: u64,
+    unmarked_far: u64,
+    /// Not marked, though the promise holds. A finder need not find all.
+    missed: u64,
+}
+
+impl Wide {
+    /// Asks for a fault, and decides the promise of what is answered.
+    fn ask(&mut self, subject: &Subject, b: u8, f: u8) {
+        let far = matches!(subject.fault.site, Site::Pin(8..));
+        let claim = Claim::new(&subject.netlist, subject.fault);
+        match subject.found(b, f) {
+            Some(certificate) => {
+                let c = certificate[4];
+                assert_eq!(subject.accepted(&certificate), Some(c), "{subject:?}");
+                assert!(claim.holds(c), "{certificate:?}, {subject:?}");
+                self.marked += u64::from(c == 0);
+                self.marked_later += u64::from(c > 0);
+                self.marked_far += u64::from(far);
+            }
+            None if (0..=b).any(|c| claim.holds(c)) => self.missed += 1,
+            None => {
+                self.unmarked += 1;
+                self.unmarked_far += u64::from(far);
+            }
+        }
+    }
+}
+
+#[test]
+fn what_the_library_finds_of_wide_gates_is_true() {
+    let mut wide = Wide::default();
+    run("wide claims", 10_000, |_, random| {
+        let subject = Subject::of_wide_gate(random);
+        let (b, f) = (random.below(3) as u8, random.below(3) as u8);
+        wide.ask(&subject, b, f);
+    });
+    println!("{wide:?}");
+    assert!(wide.marked >= 2_000 && wide.marked_far >= 1_000);
+    assert!(wide.marked_later >= 20);
+    assert!(wide.unmarked >= 2_000 && wide.unmarked_far >= 1_000);
+}
+
+#[test]
+fn what_the_library_accepts_of_wide_gates_is_true() {
+    let mut accepted = 0;
+    run("wide accepted", 1_500, |_, random| {
+        let subject = Subject::of_wide_gate(random);
+        let certificates = certificates_for(random, &subject);
+        accepted += count_accepted(&subject, &certificates);
+    });
+    println!("{accepted} accepted");
+    assert!(accepted >= 1_000, "only {accepted} accepted");
 }
 
 /// How often a checker that fell into this trap accepts a certificate whose

@@ -105,6 +105,24 @@ fn small_circuits() {
     met.assert_total(550_000);
 }
 
+#[test]
+fn wide_gates() {
+    let mut met = Met::default();
+    run("wide gates", 20_000, |_, random| {
+        let draft = small::of_wide_gate(random);
+        let fault = match random.below(10) {
+            0 => calls::fault(random, &draft),
+            _ => calls::fault_of_widest(random, &draft),
+        };
+        let (b, f) = (random.below(4) as u8, random.below(3) as u8);
+        let request = Request { fault, b, f };
+        met.count(find(random, &draft.to_bytes(), request));
+    });
+    met.assert_found_and_none(5_000, 5_000);
+    met.assert_found_at(&[0, 1], 100);
+    met.assert_total(20_000);
+}
+
 /// One circuit of each plan, with this many nodes.
 fn planned(nodes: u16) -> Vec<Draft> {
     let mut drafts = structured::all(nodes);
@@ -255,6 +273,33 @@ fn the_smallest_c_is_answered() {
             assert_eq!(find(b, 14 - b) >> 32, u64::from(depth) + 1);
         }
     });
+}
+
+#[test]
+fn the_smallest_c_is_answered_for_wide_gates() {
+    for (kind, u) in [
+        (kind::AND, 1),
+        (kind::NAND, 1),
+        (kind::OR, 0),
+        (kind::NOR, 0),
+    ] {
+        for registers in [9, kind::MOST_PINS as u16] {
+            let netlist = equal_registers(registers, 1, kind).to_bytes();
+            let fault = Fault {
+                node: registers + 1,
+                site: Site::Pin(registers as u8 - 1),
+                u,
+            };
+            let find = |b, f| {
+                let request = Request { fault, b, f };
+                find_in_just_enough(&mut Random::new(6), &netlist, request)
+            };
+            assert_eq!(find(0, 0), 0);
+            for (b, f) in [(1, 0), (2, 0), (1, 1)] {
+                assert_eq!(find(b, f) >> 32, 2);
+            }
+        }
+    }
 }
 
 /// A request and its slices with every damage of `numbers` done to them, one
