@@ -3,6 +3,7 @@
 use leverpeach_tests::cases::run;
 use leverpeach_tests::circuits::{damaged, raw, small, structured, worked, Draft};
 use leverpeach_tests::files::example;
+use leverpeach_tests::model::netlist::{MOST_NODES, MOST_PINS_IN_ALL};
 use leverpeach_tests::model::{self, kind};
 use leverpeach_tests::program::{input, print_to, printed, printed_for_pieces};
 use leverpeach_tests::random::Random;
@@ -68,6 +69,19 @@ fn small_circuits() {
     });
     println!("{marked} faults marked, {unmarked} not");
     assert!(marked >= 1_000 && unmarked >= 1_000);
+}
+
+#[test]
+fn wide_gates() {
+    let mut marked = 0;
+    run("wide reports", 60, |_, random| {
+        let draft = small::of_wide_gate(random);
+        let (b, f) = (random.below(3) as u8, random.below(2) as u8);
+        let text = compare(&input(b, f, &draft.to_bytes()));
+        marked += text.lines().count() - 1;
+    });
+    println!("{marked} faults marked");
+    assert!(marked >= 1_000);
 }
 
 #[test]
@@ -153,19 +167,22 @@ fn input_longer_than_the_buffer() {
     }
     // The longest sound netlist is refused for its frames only, and with bytes
     // behind it for its length.
-    let longest = longest_netlist();
-    assert_eq!(longest.len(), 53_252);
-    assert_eq!(compare(&input(1, 0, &longest)), "refused 12\n");
-    let mut longer = input(1, 0, &longest);
-    longer.resize(70_000, 0);
-    assert_eq!(compare(&longer), "refused 3\n");
+    for pins in [8, kind::MOST_PINS] {
+        let longest = longest_netlist(pins);
+        assert_eq!(longest.len(), 53_252);
+        assert_eq!(compare(&input(1, 0, &longest)), "refused 12\n");
+        let mut longer = input(1, 0, &longest);
+        longer.resize(70_000, 0);
+        assert_eq!(compare(&longer), "refused 3\n");
+    }
 }
 
-/// As many nodes and pins as a netlist may have.
-fn longest_netlist() -> Vec<u8> {
-    let mut draft = Draft::inputs(2_048);
-    for _ in 0..2_048 {
-        draft.push(kind::NOR, &[0; 8]);
+/// As many nodes and pins as a netlist may have, on gates of so many pins.
+fn longest_netlist(pins: usize) -> Vec<u8> {
+    let gates = MOST_PINS_IN_ALL / pins;
+    let mut draft = Draft::inputs(MOST_NODES - gates);
+    for _ in 0..gates {
+        draft.push(kind::NOR, &vec![0; pins]);
     }
     draft.to_bytes()
 }

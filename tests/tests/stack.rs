@@ -9,10 +9,11 @@ use leverpeach_tests::circuits::calls::{self, Request};
 use leverpeach_tests::circuits::{mix, structured, worked, Draft};
 use leverpeach_tests::files::{example, text_of};
 use leverpeach_tests::model::finder::Lent;
-use leverpeach_tests::model::netlist::Netlist;
+use leverpeach_tests::model::netlist::{Netlist, MOST_PINS_IN_ALL};
 use leverpeach_tests::model::report::faults;
 use leverpeach_tests::model::{kind, Fault, Site};
 use leverpeach_tests::native;
+use leverpeach_tests::random::Random;
 use std::thread;
 
 /// Bytes of stack that a caller has to spare, for the thread itself too.
@@ -171,6 +172,38 @@ fn faults_that_no_run_shows() {
     ] {
         let netlist = lock(nodes).to_bytes();
         assert_eq!(find_all(&netlist, &[Fault { node, site, u }], b, f), [0]);
+    }
+}
+
+/// As many nodes and pins as there may be: inputs, gates of 64 pins that read any
+/// smaller nodes, and outputs of the last 64 gates.
+fn widest_gates(random: &mut Random) -> Draft {
+    let outputs = kind::MOST_PINS;
+    let gates = MOST_PINS_IN_ALL / kind::MOST_PINS - 1;
+    let mut draft = Draft::inputs(usize::from(MOST_NODES) - gates - outputs);
+    for kind in (kind::AND..=kind::NOR).cycle().take(gates) {
+        let node = draft.nodes.len();
+        let sources = [0; kind::MOST_PINS].map(|_| random.below(node) as u16);
+        draft.push(kind, &sources);
+    }
+    let last = draft.nodes.len() - outputs;
+    for gate in last..last + outputs {
+        draft.push(kind::OUTPUT, &[gate as u16]);
+    }
+    draft
+}
+
+#[test]
+fn the_widest_gates() {
+    let draft = widest_gates(&mut Random::new(1));
+    assert_eq!(draft.pin_count(), MOST_PINS_IN_ALL);
+    let netlist = draft.to_bytes();
+    for (b, f) in [(0, 0), (2, 1), (7, 7)] {
+        // Without flip-flops no fault is marked with a greater c than 0.
+        let [marked, 0, unmarked] = count_answers(&netlist, b, f, 2_999) else {
+            panic!("marked with c above 0");
+        };
+        assert!(marked >= 3 && unmarked >= 3, "{marked}, {unmarked}");
     }
 }
 

@@ -68,11 +68,18 @@ impl Calls {
         self.different += u64::from(!same);
     }
 
-    /// Calls on small circuits and on some of a few dozen nodes.
+    /// Calls on small circuits, on such with a wide gate, and on some of a few
+    /// dozen nodes.
     fn on_circuits(&mut self, times: u64) {
         run("small", 6_000 * times, |_, random| {
             let draft = small::any(random);
             let fault = calls::fault(random, &draft);
+            let (b, f) = (random.below(4) as u8, random.below(3) as u8);
+            self.call(random, &draft.to_bytes(), Request { fault, b, f });
+        });
+        run("wide", 300 * times, |_, random| {
+            let draft = small::of_wide_gate(random);
+            let fault = calls::fault_of_widest(random, &draft);
             let (b, f) = (random.below(4) as u8, random.below(3) as u8);
             self.call(random, &draft.to_bytes(), Request { fault, b, f });
         });
