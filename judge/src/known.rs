@@ -9,7 +9,7 @@ use crate::abc::{Abc, Verdict};
 use crate::blif;
 use crate::draft::Draft;
 use crate::fault::Fault;
-use crate::netlist::{Kind, Netlist};
+use crate::netlist::{Kind, Netlist, MOST_PINS};
 
 /// A claim, and whether it holds.
 pub struct Known {
@@ -75,7 +75,8 @@ fn all() -> Vec<Known> {
     claims.extend(no_outputs());
     claims.extend(one_pin_gates());
     for kind in [Kind::And, Kind::Nand, Kind::Or, Kind::Nor] {
-        claims.extend((2..=8).flat_map(|pins| wide_gate(kind, pins)));
+        let pin_counts = (2..=8).chain([9, 33, MOST_PINS]);
+        claims.extend(pin_counts.flat_map(|pins| wide_gate(kind, pins)));
     }
     claims.extend([Kind::Xor, Kind::Xnor].into_iter().flat_map(sum_gate));
     claims

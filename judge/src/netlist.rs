@@ -1,5 +1,9 @@
 //! Gate-level netlists with flip-flops, read from their bytes.
 
+/// The most pins of a gate that one value of a pin decides: an AND, NAND, OR or
+/// NOR.
+pub const MOST_PINS: usize = 64;
+
 #[derive(Clone, Copy, Debug, PartialEq, Eq)]
 pub enum Kind {
     Input,
@@ -51,7 +55,7 @@ impl Kind {
         match self {
             Kind::Input => count == 0,
             Kind::Output | Kind::FlipFlop | Kind::Buffer | Kind::Not => count == 1,
-            Kind::And | Kind::Nand | Kind::Or | Kind::Nor => (2..=8).contains(&count),
+            Kind::And | Kind::Nand | Kind::Or | Kind::Nor => (2..=MOST_PINS).contains(&count),
             Kind::Xor | Kind::Xnor => count == 2,
         }
     }

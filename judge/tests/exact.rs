@@ -6,16 +6,17 @@ use leverpeach_judge::blif;
 use leverpeach_judge::fault::{Fault, Site};
 use leverpeach_judge::netlist::Netlist;
 use leverpeach_tests::cases::run;
-use leverpeach_tests::circuits::{calls, small};
+use leverpeach_tests::circuits::{calls, small, Draft};
 use leverpeach_tests::claim::Claim;
 use leverpeach_tests::model;
+use leverpeach_tests::random::Random;
 use std::path::Path;
 
 /// How many circuits are tried, each with one fault and c from 0 to 3.
-const CIRCUITS: u64 = 250;
+const CIRCUITS: u64 = 200;
 
-/// How often either verdict must be met, for the comparison to tell something.
-const OFTEN: usize = 150;
+/// How many more are tried with a fault of a wide gate.
+const WIDE: u64 = 50;
 
 /// The judge's own form of a fault.
 fn judged(fault: model::Fault) -> Fault {
@@ -29,14 +30,20 @@ fn judged(fault: model::Fault) -> Fault {
     }
 }
 
-#[test]
-fn the_exact_search_agrees() {
+/// Has so many claims judged, on circuits and faults drawn like this. Each verdict
+/// must be met so often, for the comparison to tell something.
+fn judge(
+    circuits: u64,
+    draw: fn(&mut Random) -> Draft,
+    draw_fault: fn(&mut Random, &Draft) -> model::Fault,
+    often: usize,
+) {
     let directory = Path::new(env!("CARGO_TARGET_TMPDIR"));
     let abc = Abc::new(directory, 10).expect("claims can be written");
     let (mut proved, mut refuted) = (0, 0);
-    run("claims judged", CIRCUITS, |_, random| {
-        let draft = small::any(random);
-        let fault = calls::fault(random, &draft);
+    run("claims judged", circuits, |_, random| {
+        let draft = draw(random);
+        let fault = draw_fault(random, &draft);
         let bytes = draft.to_bytes();
         let claim = Claim::new(&bytes, fault);
         let netlist = Netlist::read(&bytes).expect("the circuit is sound");
@@ -55,5 +62,12 @@ fn the_exact_search_agrees() {
         }
     });
     println!("{proved} claims hold, {refuted} fail");
-    assert!(proved >= OFTEN && refuted >= OFTEN);
+    assert!(proved >= often && refuted >= often);
+}
+
+// One test, since the claims are written to one file.
+#[test]
+fn the_exact_search_agrees() {
+    judge(CIRCUITS, small::any, calls::fault, 150);
+    judge(WIDE, small::of_wide_gate, calls::fault_of_widest, 50);
 }
