@@ -70,6 +70,16 @@ impl Subject {
         );
         (answer > 0).then_some(certificate)
     }
+
+    /// The c with which the library marks the fault, if it does. It accepts what
+    /// it finds, and the promise holds, which the claim decides.
+    fn marked(&self, claim: &Claim, b: u8, f: u8) -> Option<u8> {
+        let certificate = self.found(b, f)?;
+        let c = certificate[4];
+        assert_eq!(self.accepted(&certificate), Some(c), "{self:?}");
+        assert!(claim.holds(c), "{certificate:?}, {self:?}");
+        Some(c)
+    }
 }
 
 /// Claims by the fault that a certificate names, each put into tables once.
@@ -129,16 +139,27 @@ fn count_accepted(subject: &Subject, certificates: &[Vec<u8>]) -> usize {
     accepted
 }
 
-#[test]
-fn what_the_library_accepts_is_true() {
+/// Gives the library certificates for so many subjects. The promise of what it
+/// accepts must hold, and it must accept so many.
+fn assert_accepted_is_true(count: u64, draw: fn(&mut Random) -> Subject, at_least: usize) {
     let mut accepted = 0;
-    run("claims", 15_000, |_, random| {
-        let subject = Subject::new(random);
+    run("claims", count, |_, random| {
+        let subject = draw(random);
         let certificates = certificates_for(random, &subject);
         accepted += count_accepted(&subject, &certificates);
     });
     println!("{accepted} accepted");
-    assert!(accepted >= 20_000, "only {accepted} accepted");
+    assert!(accepted >= at_least, "only {accepted} accepted");
+}
+
+#[test]
+fn what_the_library_accepts_is_true() {
+    assert_accepted_is_true(15_000, Subject::new, 20_000);
+}
+
+#[test]
+fn what_the_library_accepts_of_wide_gates_is_true() {
+    assert_accepted_is_true(1_500, Subject::of_wide_gate, 3_000);
 }
 
 #[test]
@@ -161,13 +182,8 @@ fn what_the_library_finds_is_true() {
     run("found claims", 10_000, |_, random| {
         let subject = Subject::new(random);
         let (b, f) = (random.below(3) as u8, random.below(3) as u8);
-        if let Some(certificate) = subject.found(b, f) {
-            let c = certificate[4];
-            assert_eq!(subject.accepted(&certificate), Some(c), "{subject:?}");
-            let mut claims = Claims::of(&subject.netlist);
-            assert!(claims.hold(&certificate, c), "{certificate:?}, {subject:?}");
-            found += 1;
-        }
+        let claim = Claim::new(&subject.netlist, subject.fault);
+        found += u64::from(subject.marked(&claim, b, f).is_some());
     });
     println!("{found} found");
     assert!(found >= 2_000, "only {found} found");
@@ -193,11 +209,8 @@ impl Wide {
     fn ask(&mut self, subject: &Subject, b: u8, f: u8) {
         let far = matches!(subject.fault.site, Site::Pin(8..));
         let claim = Claim::new(&subject.netlist, subject.fault);
-        match subject.found(b, f) {
-            Some(certificate) => {
-                let c = certificate[4];
-                assert_eq!(subject.accepted(&certificate), Some(c), "{subject:?}");
-                assert!(claim.holds(c), "{certificate:?}, {subject:?}");
+        match subject.marked(&claim, b, f) {
+            Some(c) => {
                 self.marked += u64::from(c == 0);
                 self.marked_later += u64::from(c > 0);
                 self.marked_far += u64::from(far);
@@ -223,18 +236,6 @@ fn what_the_library_finds_of_wide_gates_is_true() {
     assert!(wide.marked >= 2_000 && wide.marked_far >= 1_000);
     assert!(wide.marked_later >= 20);
     assert!(wide.unmarked >= 2_000 && wide.unmarked_far >= 1_000);
-}
-
-#[test]
-fn what_the_library_accepts_of_wide_gates_is_true() {
-    let mut accepted = 0;
-    run("wide accepted", 1_500, |_, random| {
-        let subject = Subject::of_wide_gate(random);
-        let certificates = certificates_for(random, &subject);
-        accepted += count_accepted(&subject, &certificates);
-    });
-    println!("{accepted} accepted");
-    assert!(accepted >= 1_000, "only {accepted} accepted");
 }
 
 /// How often a checker that fell into this trap accepts a certificate whose

@@ -239,25 +239,26 @@ fn equal_registers(registers: u16, depth: u16, kind: u8) -> Draft {
     draft
 }
 
+/// Each gate with the value at which a pin is redundant beside an equal one.
+const GATES: [(u8, u8); 4] = [
+    (kind::AND, 1),
+    (kind::NAND, 1),
+    (kind::OR, 0),
+    (kind::NOR, 0),
+];
+
 #[test]
 fn the_smallest_c_is_answered() {
-    // Each gate with the value at which a pin is redundant beside an equal one.
-    let gates = [
-        (kind::AND, 1),
-        (kind::NAND, 1),
-        (kind::OR, 0),
-        (kind::NOR, 0),
-    ];
     // How many registers, and the pin that is faulted.
     let pins = [(2, 0), (2, 1), (3, 1)];
-    let places = (gates.len() * pins.len()) as u64;
+    let places = (GATES.len() * pins.len()) as u64;
     run("depths", 14 * places, |case, random| {
         // The ends are the same from the clock on in which all show what the
         // input was when the faulty circuit started.
         let depth = 1 + (case / places) as u8;
         let place = (case % places) as usize;
-        let (kind, u) = gates[place % gates.len()];
-        let (registers, pin) = pins[place / gates.len()];
+        let (kind, u) = GATES[place % GATES.len()];
+        let (registers, pin) = pins[place / GATES.len()];
         let netlist = equal_registers(registers, depth.into(), kind).to_bytes();
         let fault = Fault {
             node: registers * u16::from(depth) + 1,
@@ -277,12 +278,7 @@ fn the_smallest_c_is_answered() {
 
 #[test]
 fn the_smallest_c_is_answered_for_wide_gates() {
-    for (kind, u) in [
-        (kind::AND, 1),
-        (kind::NAND, 1),
-        (kind::OR, 0),
-        (kind::NOR, 0),
-    ] {
+    for (kind, u) in GATES {
         for registers in [9, kind::MOST_PINS as u16] {
             let netlist = equal_registers(registers, 1, kind).to_bytes();
             let fault = Fault {
