@@ -26,7 +26,7 @@ examples: tools
 	@target/examples/mark-c
 	@target/examples/mark-rust
 
-# Has Berkeley's model checker, which knows nothing of the kit, confirm the marks of ten reports on the examples.
+# Has Berkeley's model checker, which knows nothing of the kit, confirm the marks of eleven reports on the examples.
 judge: tools
 	@scripts/judge
 

@@ -1,7 +1,7 @@
 //! Calls of the reader, the simulator and the checker on random circuits.
 
 use crate::checks::Checks;
-use crate::circuits::Circuits;
+use crate::circuits::{Circuits, Make};
 use crate::measure::{compare, Pair};
 
 /// How many times the model's time the library may take for a call.
@@ -10,14 +10,19 @@ pub const LIMIT: f64 = 2.0;
 /// Repetitions of each way to do a call.
 const REPETITIONS: usize = 101;
 
-/// Node and pin counts; the second are the greatest that a netlist may have.
-pub const SIZES: [(usize, usize); 2] = [(300, 1_200), (4_096, 16_384)];
+/// The circuits that are read and stepped; the last two are as large as a netlist
+/// may be.
+pub const MAKES: [Make; 3] = [
+    Make::Usual(300, 1_200),
+    Make::Usual(4_096, 16_384),
+    Make::Widest,
+];
 
 /// Steps of a certificate, about.
 pub const STEPS: [usize; 2] = [1_000, 10_000];
 
 pub struct Row {
-    part: &'static str,
+    part: String,
     circuits: usize,
     nodes: usize,
     pins: usize,
@@ -38,14 +43,14 @@ impl Row {
 }
 
 pub fn measure() -> Vec<Row> {
-    let mut rows: Vec<Row> = SIZES.into_iter().flat_map(measure_size).collect();
+    let mut rows: Vec<Row> = MAKES.into_iter().flat_map(measure_make).collect();
     rows.extend(STEPS.map(measure_checks));
     rows
 }
 
-/// Times the reader and the simulator on circuits of one size.
-fn measure_size((nodes, pins): (usize, usize)) -> [Row; 2] {
-    let (mut model, mut library) = (Circuits::new(nodes, pins), Circuits::new(nodes, pins));
+/// Times the reader and the simulator on circuits of one make.
+fn measure_make(make: Make) -> [Row; 2] {
+    let (mut model, mut library) = (Circuits::new(make), Circuits::new(make));
     let circuits = model.circuit_count();
     let read = compare(
         || library.read_with_library(),
@@ -61,10 +66,10 @@ fn measure_size((nodes, pins): (usize, usize)) -> [Row; 2] {
     );
     assert!(library == model, "library and model left different slices");
     [("read", read), ("simulate", simulate)].map(|(part, times)| Row {
-        part,
+        part: format!("{part}, {make}"),
         circuits,
-        nodes,
-        pins,
+        nodes: make.nodes(),
+        pins: make.pins(),
         steps: None,
         times,
     })
@@ -82,7 +87,7 @@ fn measure_checks(about_steps: usize) -> Row {
     );
     assert!(library == model, "library and model left different slices");
     Row {
-        part: "check",
+        part: format!("check, {about_steps} steps"),
         circuits,
         nodes: model.nodes,
         pins: model.pins,
@@ -107,7 +112,7 @@ fn print_heading() {
     println!("circuit on average.");
     println!();
     println!(
-        "{:<9} {:>8} {:>6} {:>6} {:>6} {:>11} {:>9} {:>6}  {:>19}",
+        "{:<22} {:>8} {:>6} {:>6} {:>6} {:>11} {:>9} {:>6}  {:>19}",
         "part",
         "circuits",
         "nodes",
@@ -118,7 +123,7 @@ fn print_heading() {
         "ratio",
         "ns per node and pin"
     );
-    println!("{:>79} {:>9}", "or per step, library", "model");
+    println!("{:>92} {:>9}", "or per step, library", "model");
 }
 
 fn print_row(row: &Row) {
@@ -133,7 +138,7 @@ fn print_row(row: &Row) {
     let steps = steps.map_or("-".to_string(), |steps| steps.to_string());
     let items = row.items() as f64;
     println!(
-        "{part:<9} {circuits:>8} {nodes:>6} {pins:>6} {steps:>6} {:>11.3} {:>9.3} {:>6.2}  {:>9.3} {:>9.3}",
+        "{part:<22} {circuits:>8} {nodes:>6} {pins:>6} {steps:>6} {:>11.3} {:>9.3} {:>6.2}  {:>9.3} {:>9.3}",
         times.library * 1e6,
         times.model * 1e6,
         times.ratio(),

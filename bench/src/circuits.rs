@@ -1,17 +1,68 @@
 //! The circuits that are read and stepped.
 
 use crate::lines::checksum_of;
-use leverpeach_tests::circuits::{calls, sound};
+use leverpeach_tests::circuits::{calls, sound, Draft};
+use leverpeach_tests::model::netlist::{MOST_NODES, MOST_PINS_IN_ALL};
 use leverpeach_tests::model::{self, Stepped};
 use leverpeach_tests::native::{self, FaultBytes};
 use leverpeach_tests::random::Random;
-use std::fmt::Debug;
+use std::fmt::{self, Debug, Display, Formatter};
 use std::hint::black_box;
 
-/// Nodes of all circuits of one size together. It is the same for each size,
+/// Nodes of all circuits of one make together. It is the same for each make,
 /// so that caches and branch prediction help small circuits no more than large
 /// ones.
 const NODES_IN_ALL: usize = 65_536;
+
+/// What circuits are made of.
+#[derive(Clone, Copy)]
+pub enum Make {
+    /// Random gates, most of them narrow, with so many nodes and pins.
+    Usual(usize, usize),
+    /// As many nodes and pins as a netlist may have, and the widest gates.
+    Widest,
+}
+
+impl Make {
+    /// The first of these circuits.
+    pub fn netlist(self) -> Vec<u8> {
+        self.draft(&mut self.random()).to_bytes()
+    }
+
+    fn random(self) -> Random {
+        Random::new(self.nodes() as u64)
+    }
+
+    fn draft(self, random: &mut Random) -> Draft {
+        match self {
+            Make::Usual(nodes, pins) => sound::of_size(random, nodes, pins),
+            Make::Widest => sound::of_widest_gates(random),
+        }
+    }
+
+    pub fn nodes(self) -> usize {
+        match self {
+            Make::Usual(nodes, _) => nodes,
+            Make::Widest => MOST_NODES,
+        }
+    }
+
+    pub fn pins(self) -> usize {
+        match self {
+            Make::Usual(_, pins) => pins,
+            Make::Widest => MOST_PINS_IN_ALL,
+        }
+    }
+}
+
+impl Display for Make {
+    fn fmt(&self, out: &mut Formatter) -> fmt::Result {
+        match self {
+            Make::Usual(nodes, _) => write!(out, "{nodes} nodes"),
+            Make::Widest => write!(out, "widest gates"),
+        }
+    }
+}
 
 /// A netlist, a fault of it, and the simulator's slices.
 #[derive(PartialEq)]
@@ -22,17 +73,17 @@ struct Circuit {
     second: Vec<u8>,
 }
 
-/// Circuits of one size, the same ones each time they are made.
+/// Circuits of one make, the same ones each time they are made.
 #[derive(PartialEq)]
 pub struct Circuits {
     circuits: Vec<Circuit>,
 }
 
 impl Circuits {
-    pub fn new(nodes: usize, pins: usize) -> Self {
-        let mut random = Random::new(nodes as u64);
+    pub fn new(make: Make) -> Self {
+        let (nodes, mut random) = (make.nodes(), make.random());
         let circuits = (0..NODES_IN_ALL / nodes).map(|_| {
-            let draft = sound::of_size(&mut random, nodes, pins);
+            let draft = make.draft(&mut random);
             Circuit {
                 netlist: draft.to_bytes(),
                 fault: calls::fault_bytes(&mut random, &draft),

@@ -11,6 +11,7 @@ mod circuits;
 mod growth;
 mod lines;
 mod measure;
+mod per_fault;
 mod reports;
 mod tables;
 mod turns;
@@ -34,12 +35,14 @@ fn compare_with_model() -> ExitCode {
     calls::print(&calls);
     let reports: Vec<Timed> = reports::CASES.iter().map(measure).collect();
     tables::print_limits(&reports);
+    per_fault::print(&reports);
     growth::print(&reports);
     growth::write(&reports);
     let calls_fit = calls.iter().all(calls::Row::is_within_limit);
     let reports_fit = reports.iter().all(Timed::is_within_limit);
+    let faults_fit = per_fault::is_within_limit(&reports);
     println!();
-    if !(calls_fit && reports_fit) {
+    if !(calls_fit && reports_fit && faults_fit) {
         println!("a limit is missed");
         return ExitCode::FAILURE;
     }

@@ -46,12 +46,13 @@ impl Case {
 
 /// Every report that is timed, those with a limit and those that show how the
 /// time grows.
-pub const CASES: [Case; 11] = [
+pub const CASES: [Case; 12] = [
     Case::new("mix30", 2, 1, 1),
     Case::new("mix100", 2, 1, 1).at_least(300.0),
     Case::new("mix290", 2, 1, 31),
     Case::new("mix1000", 2, 1, 500),
     Case::new("random290", 2, 1, 15).at_least(300.0),
+    Case::new("decoder", 2, 1, 31).at_least(20.0),
     Case::new("mix100", 4, 3, 9),
     Case::new("mix100", 5, 5, 15),
     Case::new("mix100", 7, 7, 31),
@@ -111,7 +112,7 @@ impl Report {
     pub fn checksum(&mut self) -> u64 {
         checksum_of((0..self.faults.len()).map(|place| {
             let answer = self.ask(place);
-            let length = certificate_length(answer);
+            let length = native::found_length(answer);
             (answer, self.slices[2][..length].to_vec())
         }))
     }
@@ -143,14 +144,6 @@ impl Report {
         assert_eq!(answer, self.answers[place], "{fault:?}, asked again");
         assert!(*slices == expected, "other bytes for {fault:?}");
         seconds
-    }
-}
-
-/// The length that an answer of the finder names, 0 where nothing is found.
-fn certificate_length(answer: u64) -> usize {
-    match answer >> 32 {
-        0 => 0,
-        _ => answer as u32 as usize,
     }
 }
 

@@ -25,6 +25,10 @@ const SHORT_TURNS: usize = 45;
 /// The seconds up to which that is so.
 const SHORT: f64 = 0.1;
 
+/// What a program says in the place of a turn where its library refuses the
+/// circuits of a line.
+const REFUSED: &str = "refused";
+
 /// The word by which this program is asked for one turn.
 pub const LINE: &str = "line";
 
@@ -80,12 +84,14 @@ impl Row {
     }
 }
 
-/// Takes one turn at the line of this place, and prints seconds and checksum for
-/// the program that asked for it.
+/// Takes one turn at the line of this place, and prints seconds and checksum, or
+/// that its circuits are refused, for the program that asked for it.
 pub fn take_one(place: &str) -> ExitCode {
     let place: usize = place.parse().expect("the place is a number");
-    let Turn { seconds, checksum } = lines::all()[place].turn();
-    println!("{seconds} {checksum}");
+    match lines::all()[place].turn() {
+        Some(Turn { seconds, checksum }) => println!("{seconds} {checksum}"),
+        None => println!("{REFUSED}"),
+    }
     ExitCode::SUCCESS
 }
 
@@ -98,19 +104,32 @@ pub fn take_all(before: &str) -> ExitCode {
     let mut rows = Vec::new();
     for (place, line) in lines::all().iter().enumerate() {
         eprintln!("timing {line}");
-        let Some(row) = compare(&programs, place, line) else {
-            println!("{line}: the two libraries give different answers or certificates");
-            return ExitCode::FAILURE;
-        };
-        rows.push(row);
+        match compare(&programs, place, line) {
+            Compared::Times(row) => rows.push(row),
+            Compared::NewHere => {
+                println!("{line}: left out, since the library of before refuses its circuits")
+            }
+            Compared::Different => {
+                println!("{line}: the two libraries give different answers or certificates");
+                return ExitCode::FAILURE;
+            }
+        }
     }
     print(&rows);
     ExitCode::SUCCESS
 }
 
-/// The times of both programs at a line, unless their answers differ. Each of
-/// the two goes first in every other turn.
-fn compare(programs: &[PathBuf; 2], place: usize, line: &Line) -> Option<Row> {
+/// What the turns of both programs at a line show.
+enum Compared {
+    Times(Row),
+    /// The library of before refuses the line's circuits.
+    NewHere,
+    Different,
+}
+
+/// Compares both programs at a line. Each of the two goes first in every other
+/// turn, the one of before in the first.
+fn compare(programs: &[PathBuf; 2], place: usize, line: &Line) -> Compared {
     let mut row = Row::new(line);
     for turn in 0.. {
         if turn >= LONG_TURNS && row.is_done() {
@@ -118,19 +137,25 @@ fn compare(programs: &[PathBuf; 2], place: usize, line: &Line) -> Option<Row> {
         }
         let mut checksums = [0; 2];
         for side in [turn % 2, 1 - turn % 2] {
-            let Turn { seconds, checksum } = ask(&programs[side], place);
+            let Some(Turn { seconds, checksum }) = ask(&programs[side], place) else {
+                return match side {
+                    0 => Compared::NewHere,
+                    _ => Compared::Different,
+                };
+            };
             checksums[side] = checksum;
             row.times[side].push(seconds);
         }
         if checksums[0] != checksums[1] {
-            return None;
+            return Compared::Different;
         }
     }
-    Some(row)
+    Compared::Times(row)
 }
 
-/// Has a program take a turn at the line of this place.
-fn ask(program: &Path, place: usize) -> Turn {
+/// Has a program take a turn at the line of this place; none where its library
+/// refuses the line's circuits.
+fn ask(program: &Path, place: usize) -> Option<Turn> {
     let asked = Command::new(program)
         .args([LINE, &place.to_string()])
         .output();
@@ -140,13 +165,16 @@ fn ask(program: &Path, place: usize) -> Turn {
         let why = String::from_utf8_lossy(&output.stderr);
         panic!("{} took no turn: {said}{why}", program.display())
     };
+    if said.trim() == REFUSED {
+        return None;
+    }
     let Some((seconds, checksum)) = said.trim().split_once(' ') else {
         wrong()
     };
-    Turn {
+    Some(Turn {
         seconds: seconds.parse().unwrap_or_else(|_| wrong()),
         checksum: checksum.parse().unwrap_or_else(|_| wrong()),
-    }
+    })
 }
 
 fn print(rows: &[Row]) {

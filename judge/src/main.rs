@@ -1,4 +1,4 @@
-//! Judges the marks of ten reports on the examples. Ends with status 1 if a known
+//! Judges the marks of eleven reports on the examples. Ends with status 1 if a known
 //! claim is answered wrongly or a mark is not confirmed.
 
 use leverpeach_judge::abc::{Abc, Verdict};

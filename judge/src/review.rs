@@ -24,7 +24,7 @@ impl Case {
 }
 
 /// Every report that is judged.
-pub const CASES: [Case; 10] = [
+pub const CASES: [Case; 11] = [
     Case::new("and2", 0, 0),
     Case::new("p1", 1, 0),
     Case::new("ffself", 1, 0),
@@ -35,6 +35,7 @@ pub const CASES: [Case; 10] = [
     Case::new("random100", 2, 1),
     Case::new("mix100", 2, 1),
     Case::new("mix100", 7, 7),
+    Case::new("decoder", 2, 1),
 ];
 
 /// A claim, that from clock c on no output shows the fault, and its verdict.

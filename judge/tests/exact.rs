@@ -13,7 +13,7 @@ use leverpeach_tests::random::Random;
 use std::path::Path;
 
 /// How many circuits are tried, each with one fault and c from 0 to 3.
-const CIRCUITS: u64 = 200;
+const CIRCUITS: u64 = 250;
 
 /// How many more are tried with a fault of a wide gate.
 const WIDE: u64 = 50;

@@ -219,7 +219,7 @@ pub fn found_number(c: u8, length: usize) -> u64 {
 
 /// The length that the number of a finder's answer tells: the lower half, where
 /// a certificate is found.
-fn found_length(answer: u64) -> usize {
+pub fn found_length(answer: u64) -> usize {
     match answer >> 32 {
         0 => 0,
         _ => (answer & 0xFFFF_FFFF) as usize,

@@ -435,6 +435,20 @@ fn some_faults_of_the_large_examples() {
 }
 
 #[test]
+fn some_faults_of_the_decoder() {
+    let mut met = Met::default();
+    let netlist = example("decoder");
+    let faults = every_fault(&netlist);
+    run("decoder", 60, |_, random| {
+        let fault = random.pick(&faults);
+        let request = Request { fault, b: 1, f: 0 };
+        met.count(find_in_just_enough(random, &netlist, request));
+    });
+    met.assert_found_and_none(5, 20);
+    met.assert_total(60);
+}
+
+#[test]
 fn the_longest_certificates() {
     // Each line but the split is a step, in both branches.
     let netlist = structured::settled_chain(4_096).to_bytes();

@@ -299,7 +299,7 @@ fn the_widest_gates_under_all_but_one_and_under_some_inputs() {
 fn every_pin_of_the_widest_gates_stuck() {
     for pins in [9, 16, 33, 63, MOST_PINS] {
         let mut gates = WideGates::new(pins);
-        // The value that decides nothing while all pins read it.
+        // The value with which a pin leaves the others to decide.
         for (gate, neutral) in [1, 1, 0, 0].into_iter().enumerate() {
             let same = if neutral == 1 { gates.all() } else { 0 };
             for pin in 0..pins {

@@ -39,3 +39,51 @@ fn characters_are_counted_not_bytes() {
     let text = format!("{fits}\nshort\n{fits}x\n");
     assert_eq!(too_long(&text), [(3, LONGEST_LINE + 1)]);
 }
+
+/// The lines of the sources in a folder of each crate that hold a word by itself;
+/// lines of comments are left out.
+fn lines_with(folder: &str, word: &str) -> Vec<String> {
+    let mut files = files_below("crates");
+    files.retain(|path| path.contains(folder));
+    let lines = files.iter().flat_map(|path| {
+        let text = text_of(path);
+        let lines: Vec<String> = text.lines().map(|line| line.trim().to_string()).collect();
+        lines
+    });
+    let part_of_a_name = |letter: char| letter.is_alphanumeric() || letter == '_';
+    let holds = |line: &String| line.split(|it| !part_of_a_name(it)).any(|it| it == word);
+    let code = lines.filter(|line| !line.starts_with("--") && !line.starts_with("//"));
+    code.filter(holds).collect()
+}
+
+// 02, request 1: "Netlists that were sound before get the answers they had". No
+// answer can depend on the limit but by the rules of the kinds, and of a rule's
+// limit nothing but by the test of pin counts.
+#[test]
+fn only_the_rules_of_kinds_cite_the_pin_limit() {
+    let cited = [
+        "abbrev pub mostPins : ℕ",
+        "mostPins = 64",
+        "rules = rulesUpTo mostPins",
+    ];
+    assert_eq!(lines_with("/specs/", "mostPins"), cited);
+    assert!(lines_with("/src/", "mostPins").is_empty());
+    let tables = [
+        "abbrev pub rulesUpTo : ℕ → List Rule",
+        "rulesUpTo most =",
+        "rules = rulesUpTo mostPins",
+    ];
+    assert_eq!(lines_with("/specs/", "rulesUpTo"), tables);
+    let read = lines_with("/specs/", "most");
+    let read: Vec<&String> = read.iter().filter(|line| line.contains(" .most")).collect();
+    assert!(matches!(read[..], [line] if line.starts_with("countFits n =")));
+    let cited = [
+        "const MOST_PINS: u16 = 64;",
+        "5..=6 => rule_with(2, MOST_PINS, Gate::And, kind == 6),",
+        "7..=8 => rule_with(2, MOST_PINS, Gate::Or, kind == 8),",
+    ];
+    assert_eq!(lines_with("/src/", "MOST_PINS"), cited);
+    let read = lines_with("/src/", "most");
+    let read: Vec<&String> = read.iter().filter(|line| line.contains(".most")).collect();
+    assert_eq!(read, ["rule.least <= count && count <= rule.most"]);
+}

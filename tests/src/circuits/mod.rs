@@ -5,6 +5,7 @@
 pub mod calls;
 pub mod certificates;
 pub mod damaged;
+pub mod decoder;
 pub mod draft;
 pub mod mix;
 pub mod mutants;
