@@ -1,8 +1,8 @@
 -- Laws of what a node's pins read, as the code walks them: by pin number, from the last pin on.
 use mathlib.Core.Bool.{Bool, cond, false, true}
-use mathlib.Core.List.{List}
-use mathlib.Core.Path.{_∙_, _≡_, refl, subst}
-use Prim.Native.Nat.{_-_, _<_, _≤_, suc, ℕ}
+use mathlib.Core.List.{List, [], _∷_}
+use mathlib.Core.Path.{_∙_, _≡_, refl, subst, sym}
+use Prim.Native.Nat.{_-_, _<_, _≤_, suc, zero, ℕ}
 use native.Mathlib.Nat.{zero-add}
 use native.Mathlib.Omega.{arith}
 use lib.Dec.{eqb}
@@ -50,10 +50,13 @@ module _ (bs : List ℕ) (s : StuckLines) (v : ℕ → ℕ) (n : ℕ) where
 
 -- the same with one pin taken to read another value
 module _ (bs : List ℕ) (s : StuckLines) (v : ℕ → ℕ) (n a w : ℕ) where
-  pub length-assumed : length (set (pinValues (netOf bs) s v n) a w) ≡ lengthOf bs n
+  abbrev pub assumedPins : List ℕ
+  assumedPins = set (pinValues (netOf bs) s v n) a w
+
+  pub length-assumed : length assumedPins ≡ lengthOf bs n
   length-assumed = simp length-set (length-pinValues bs s v n)
 
-  pub assumed-at : (k : ℕ) → k < lengthOf bs n → at (set (pinValues (netOf bs) s v n) a w) k ≡ cond (eqb k a) w (stuckOr (s .pin n k) (v (sourceOf bs n k)))
+  pub assumed-at : (k : ℕ) → k < lengthOf bs n → at assumedPins k ≡ cond (eqb k a) w (stuckOr (s .pin n k) (v (sourceOf bs n k)))
   assumed-at k h = go (eqb k a) refl
     where
       vs : List ℕ
@@ -67,9 +70,37 @@ module _ (bs : List ℕ) (s : StuckLines) (v : ℕ → ℕ) (n a w : ℕ) where
 pub function-none : (g : Gate) (vs : List ℕ) → unitOf g ≡ functionOf g (drop (length vs) vs)
 function-none g vs = let h : length vs ≤ length vs = omega arith in rw (drop-of-length-le vs h)
 
--- one pin more in front, where pins are counted down to 0
+-- one pin more in front
+pub function-front : (g : Gate) (vs : List ℕ) (j : ℕ) → j < length vs → joinOf g (at vs j) (functionOf g (drop (suc j) vs)) ≡ functionOf g (drop j vs)
+function-front g vs j h = rw (drop-cons vs j 0 h)
+
+-- the same where pins are counted down to 0
 pub function-more : (g : Gate) (vs : List ℕ) (j : ℕ) → 0 < j → j ≤ length vs → joinOf g (at vs (j - 1)) (functionOf g (drop j vs)) ≡ functionOf g (drop (j - 1) vs)
 function-more g vs j h l =
-    let m : j - 1 < length vs = omega arith in
     let e : suc (j - 1) ≡ j = omega arith in
-    subst (λ (i : ℕ). joinOf g (at vs (j - 1)) (functionOf g (drop i vs)) ≡ functionOf g (drop (j - 1) vs)) e (rw (drop-cons vs (j - 1) 0 m))
+    subst (λ (i : ℕ). joinOf g (at vs (j - 1)) (functionOf g (drop i vs)) ≡ functionOf g (drop (j - 1) vs)) e (function-front g vs (j - 1) (omega arith))
+
+-- a value that one more pin in front leaves as it is, all pins in front leave as it is
+module _ (g : Gate) (w : ℕ) (stays : (v : ℕ) → joinOf g v w ≡ w) where
+  pub function-stays : (vs : List ℕ) (j : ℕ) → j ≤ length vs → functionOf g (drop j vs) ≡ w → functionOf g vs ≡ w
+  function-stays vs zero h e = e
+  function-stays [] (suc j) h e = absurd (omega arith)
+  function-stays (v ∷ vs) (suc j) h e = rw (function-stays vs j (omega arith) e) (stays v)
+
+-- a gate's function of a node's pins, one of them taken to read another value, where the last ones are joined
+module _ (bs : List ℕ) (s : StuckLines) (v : ℕ → ℕ) (n a w : ℕ) (g : Gate) where
+  -- the value is that of the pins from j on
+  abbrev pub JoinedFrom : ℕ → ℕ → Type 0
+  JoinedFrom j value = (j ≤ lengthOf bs n) × (value ≡ functionOf g (drop j (assumedPins bs s v n a w)))
+
+  -- no pin is joined yet
+  pub joined-none : JoinedFrom (lengthOf bs n) (unitOf g)
+  joined-none = (omega arith, rw (← length-assumed bs s v n a w) (function-none g (assumedPins bs s v n a w)))
+
+  -- the pin in front of those that are joined is one of the node's, and the value is that of the pins behind it
+  pub joined-behind : (j value : ℕ) → 0 < j → JoinedFrom j value → (j - 1 < lengthOf bs n) × (value ≡ functionOf g (drop (suc (j - 1)) (assumedPins bs s v n a w)))
+  joined-behind j value h (l, e) = let back : suc (j - 1) ≡ j = omega (arith, h) in (omega (arith, h, l), rw back e)
+
+  -- a value that stays is that of all pins
+  pub joined-all : (j value : ℕ) → JoinedFrom j value → ((x : ℕ) → joinOf g x value ≡ value) → value ≡ functionOf g (assumedPins bs s v n a w)
+  joined-all j value (l, e) stays = sym (function-stays g value stays (assumedPins bs s v n a w) j (omega (arith, l, length-assumed bs s v n a w)) (sym e))

@@ -1,12 +1,12 @@
 // One clock step of a circuit, good or faulty.
 ghost use mathlib.Core.Path.{_≡_};
-ghost use Prim.Native.Nat.{_*_, _+_};
+ghost use Prim.Native.Nat.{_*_, _+_, _<_, suc, ℕ};
 ghost use lib.Dec.{eqb};
-ghost use lib.ListN.{set};
-ghost use mathlib.Core.Bool.{cond};
+ghost use lib.ListN.{drop, set};
+ghost use mathlib.Core.Bool.{cond, true};
 ghost use Rattle.values.specs.Lists.{at, every};
-ghost use Rattle.netlist.specs.Netlist.{kindOf, netOf, nodeCount, offsetOf, sourceOf};
-ghost use Rattle.gates.specs.Kind.{gate};
+ghost use Rattle.netlist.specs.Netlist.{kindOf, lengthOf, netOf, nodeCount, offsetOf, sourceOf};
+ghost use Rattle.gates.specs.Kind.{functionOf, gate, joinOf};
 ghost use Rattle.gates.specs.Value.{stuckOr};
 ghost use Rattle.circuit.specs.Fault.{linesIn};
 ghost use Rattle.netlist.specs.Answer.{outcome};
@@ -19,6 +19,7 @@ use circuit::stuck_node;
 use circuit::stuck_or;
 use circuit::stuck_pin;
 use gates::FLIP_FLOP;
+use gates::Gate;
 use gates::inverted_if;
 use gates::is_given;
 use gates::join_of;
@@ -33,6 +34,11 @@ use netlist::refusal_number;
 use netlist::source_at;
 use values::byte_at;
 use values::store;
+
+// The most pins that are few; no answer depends on it. Few pins have a loop of their own: where one loop
+// for all gates asked whether the value stays, a report on narrow gates took 6 to 7 in a hundred
+// instructions more.
+const FEW_PINS: u16 = 8;
 
 // The simulator's answer: the clock step is done, or the refusal's number.
 pub enum Stepped {
@@ -70,8 +76,119 @@ fn assumed_value(
     pin_value(netlist, place, circuit, seen, node, pin)
 }
 
+// A gate's function of a node's pins from this pin on, where the value is that of the pins behind it and
+// the assumed pin is taken to read the assumption.
+fn joined_from(
+    netlist: &[u8],
+    place: u32,
+    circuit: Circuit,
+    seen: &[u8],
+    node: u16,
+    pin: u16,
+    assumed: u16,
+    assumption: u8,
+    gate: Gate,
+    value: u8,
+) -> u8
+    requires { ⌜ place ≡ 4 + 5 * nodeCount (now netlist) + 2 * offsetOf (now netlist) node ⌝ }
+    requires { ⌜ pin < lengthOf (now netlist) node ⌝ }
+    requires { ⌜ value ≡ functionOf gate (drop (suc pin) (set (pinValues (netOf (now netlist)) (linesIn circuit) (at (now seen)) node) assumed assumption)) ⌝ }
+    ensures { λ r. ⌜ r ≡ functionOf gate (drop pin (set (pinValues (netOf (now (netlist .entry))) (linesIn circuit) (at (now (seen .entry))) node) assumed assumption)) ⌝ }
+{
+    let read = assumed_value(
+        netlist,
+        place,
+        circuit,
+        seen,
+        node,
+        pin,
+        assumed,
+        assumption,
+    );
+    join_of(gate, read, value)
+}
+
+// A gate's function of a node's few pins, where the assumed pin is taken to read the assumption. All
+// values are joined, from the last pin on.
+fn function_of_few(
+    netlist: &[u8],
+    circuit: Circuit,
+    seen: &[u8],
+    node: u16,
+    gate: Gate,
+    assumed: u16,
+    assumption: u8,
+) -> u8
+    ensures { λ r. ⌜ r ≡ functionOf gate (set (pinValues (netOf (now (netlist .entry))) (linesIn circuit) (at (now (seen .entry))) node) assumed assumption) ⌝ }
+{
+    let place = pins_place(netlist, node);
+    let mut value = unit_of(gate);
+    let mut pin = length_of(netlist, node);
+    while 0 < pin {
+        pin -= 1;
+        value = joined_from(
+            netlist,
+            place,
+            circuit,
+            seen,
+            node,
+            pin,
+            assumed,
+            assumption,
+            gate,
+            value,
+        );
+    }
+    value
+}
+
+// True only where a gate's value stays whatever the pins in front read: an AND's 0, an OR's 1. Where it is
+// false although the value stays, pins are looked at for nothing.
+fn value_stays(gate: Gate, value: u8) -> bool
+    ensures { λ r. ⌜ (r ≡ true → (v : ℕ) → joinOf gate v value ≡ value) ⌝ }
+{
+    match gate {
+        Gate::And => value == 0,
+        Gate::Or => value == 1,
+        _ => false,
+    }
+}
+
+// A gate's function of a node's many pins, as `function_of_few` gives it. Pins in front of a value that
+// stays are not looked at.
+fn function_of_many(
+    netlist: &[u8],
+    circuit: Circuit,
+    seen: &[u8],
+    node: u16,
+    gate: Gate,
+    assumed: u16,
+    assumption: u8,
+) -> u8
+    ensures { λ r. ⌜ r ≡ functionOf gate (set (pinValues (netOf (now (netlist .entry))) (linesIn circuit) (at (now (seen .entry))) node) assumed assumption) ⌝ }
+{
+    let place = pins_place(netlist, node);
+    let mut value = unit_of(gate);
+    let mut pin = length_of(netlist, node);
+    while 0 < pin && !value_stays(gate, value) {
+        pin -= 1;
+        value = joined_from(
+            netlist,
+            place,
+            circuit,
+            seen,
+            node,
+            pin,
+            assumed,
+            assumption,
+            gate,
+            value,
+        );
+    }
+    value
+}
+
 // What a node makes of its pins' values, where the assumed pin is taken to read the assumption.
-// The values are joined from the last pin on.
 pub fn gate_assuming(
     netlist: &[u8],
     circuit: Circuit,
@@ -84,23 +201,11 @@ pub fn gate_assuming(
 {
     let rule = rule_of(kind_of(netlist, node));
     let gate = rule.gate;
-    let place = pins_place(netlist, node);
-    let mut value = unit_of(gate);
-    let mut pin = length_of(netlist, node);
-    while 0 < pin {
-        pin -= 1;
-        let read = assumed_value(
-            netlist,
-            place,
-            circuit,
-            seen,
-            node,
-            pin,
-            assumed,
-            assumption,
-        );
-        value = join_of(gate, read, value);
-    }
+    let value = if FEW_PINS < length_of(netlist, node) {
+        function_of_many(netlist, circuit, seen, node, gate, assumed, assumption)
+    } else {
+        function_of_few(netlist, circuit, seen, node, gate, assumed, assumption)
+    };
     inverted_if(rule.inverted, value)
 }
 
