@@ -1,6 +1,8 @@
 // The kit for C and other languages: numbers and byte slices alone. A slice is passed as a
 // pointer and then a length: the caller sees to it that the pointer is valid for that length and that a
 // slice that is written overlaps no other. Any numbers and any bytes then get an answer.
+#![tactic(auto)]
+
 ghost use Rattle.std.specs.Prelude.{◌⊎◌, ◌≡◌, ℕ, ◌*◌, ◌+◌, ◌<◌, take};
 ghost use Rattle.netlist.specs.Answer.{number_of, refused};
 ghost use Rattle.netlist.specs.Netlist.{reading, reading_says};

@@ -1,5 +1,7 @@
 // A certificate's bytes: head, pairs and steps; and the room that it takes. Other crates know how long head
 // and step are, not where in them something stands.
+#![tactic(auto)]
+
 mod layout;
 mod reader;
 mod room;

@@ -1,5 +1,7 @@
 // A circuit's fault list, one fault after the other, and decimal text, written into a slice: what every
 // program that names faults in lines of text needs.
+#![tactic(auto)]
+
 mod faults;
 mod text;
 

@@ -1,4 +1,6 @@
 // The values of a line, 0, 1 and unknown; what gates make of them; and what a kind number decides.
+#![tactic(auto)]
+
 mod kind;
 
 pub use kind::{

@@ -1,4 +1,6 @@
 // What is known in a window of frames, and what the relation of a node at a frame concludes.
+#![tactic(auto)]
+
 mod relation;
 mod window;
 

@@ -1,4 +1,6 @@
 // The netlist: what its bytes say, and whether they are a sound netlist.
+#![tactic(auto)]
+
 mod reader;
 
 pub use reader::{

@@ -1,4 +1,6 @@
 // Prints the report on standard input: B, F (a byte each) and a netlist.
+#![tactic(auto)]
+
 ghost use Rattle.report_text.specs.Turns.{ProgramBuffers, slices};
 
 use libc::{STDIN_FILENO, STDOUT_FILENO};

@@ -1,5 +1,7 @@
 // The search: the first split whose two branches close. Splits that are shown to stay open are left out; of
 // what looks for such (`quick`) nothing is promised.
+#![tactic(auto)]
+
 mod answer;
 mod branch;
 mod guess;

@@ -1,5 +1,7 @@
 // The simulator: one clock step of a circuit. Its definitions go on to lists of clocks, and end with
 // THE STATEMENT of what an accepted certificate means.
+#![tactic(auto)]
+
 mod clock;
 
 pub use clock::{Stepped, gate_assuming, gate_value, latch, settle, simulate};

@@ -1,4 +1,6 @@
 // Splits: the order in which they are tried, and the notes of those that stay open.
+#![tactic(auto)]
+
 mod notes;
 mod split;
 

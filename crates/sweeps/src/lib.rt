@@ -1,5 +1,7 @@
 // Splits worked out by sweeps: whether both branches close, whether a set of values is open, and the
 // certificate of a split.
+#![tactic(auto)]
+
 mod branch;
 mod notes;
 mod open;
