@@ -14,6 +14,7 @@ numbers_of {A} ts = map (λ (t : Test A). t.number) ts
 
 -- the first test that fails is one of the tests
 fails_among : {A : Type 0} (ts : List (Test A)) (a : A) (k : ℕ) → FirstFails a k ts → Mem k (numbers_of ts)
+fails_among {A = A} [] a k x' = elim x' [ ]
 fails_among (t ∷ ts) a k (fails_here f e) = rw (← e) mem-cons_self
 fails_among (t ∷ ts) a k (fails_later p f) = mem-cons_of_mem t.number (fails_among ts a k f)
 

@@ -23,12 +23,12 @@ pub returns-then-not-sources_allowed : goal.returns-then-not-sources_allowed
 returns-then-not-sources_allowed c =
     let s = c.args.netlist.now in
     let l = c.loop-node in
-    let fails = sym c.sources_allowed.ensures ∙ not-true _ c.if-not-sources_allowed.true in
-    sym (every_fails (sources_allowed s) _ l.node c.loop-test.true fails)
+    let fails = sym c.sources_allowed.ensures ∙ c.if-not-sources_allowed.true in
+    sym (every_fails (sources_allowed s) _ l.node c.loop-node-test.true fails)
 
 -- src/reader.rt:191:5
 pub loop-node-preserved : goal.loop-node-preserved
 loop-node-preserved c = let s = c.args.netlist.now in
     let l = c.loop-node in
-    let passes = sym c.sources_allowed.ensures ∙ not-false _ c.if-not-sources_allowed.false in
+    let passes = sym c.sources_allowed.ensures ∙ c.if-not-sources_allowed.false in
     (omega arith, every_more (sources_allowed s) l.node l.invariant.1 passes)

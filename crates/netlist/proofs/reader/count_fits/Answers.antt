@@ -12,12 +12,10 @@ use Rattle.netlist.proofs.reader.count_fits.Goals as goal
 pub returns-then-rule-count : goal.returns-then-rule-count
 unfolding count_fits
 returns-then-rule-count c =
-    let e = c.before in
-    rw (← e.before.before.kind-of.ensures, ← e.before.rule-of.ensures, ← e.length-of.ensures, le-leb _ _ c.if-rule-count.true)
+    rw (← c.kind_of.ensures, ← c.rule_of-rule.ensures, ← c.length_of-count.ensures, le-leb _ _ c.if-rule-count.true)
 
 -- src/reader.rt:127:1
 pub returns-else-rule-count : goal.returns-else-rule-count
 unfolding count_fits
 returns-else-rule-count c =
-    let e = c.before in
-    rw (← e.before.before.kind-of.ensures, ← e.before.rule-of.ensures, ← e.length-of.ensures, lt-leb _ _ c.if-rule-count.false)
+    rw (← c.kind_of.ensures, ← c.rule_of-rule.ensures, ← c.length_of-count.ensures, lt-leb _ _ c.if-rule-count.false)

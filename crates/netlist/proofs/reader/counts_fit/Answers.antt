@@ -23,10 +23,10 @@ loop-node-init c = (omega arith, refl)
 pub returns-then-not-count_fits : goal.returns-then-not-count_fits
 returns-then-not-count_fits c = let s = c.args.netlist.now in
     let i = c.loop-node.node in
-    sym (every_fails (count_fits s) _ i c.loop-test.true (sym c.count_fits.ensures ∙ not-true _ c.if-not-count_fits.true))
+    sym (every_fails (count_fits s) _ i c.loop-node-test.true (sym c.count_fits.ensures ∙ c.if-not-count_fits.true))
 
 -- src/reader.rt:140:5
 pub loop-node-preserved : goal.loop-node-preserved
 loop-node-preserved c = let s = c.args.netlist.now in
     let l = c.loop-node in
-    (omega arith, every_more (count_fits s) l.node l.invariant.1 (sym c.count_fits.ensures ∙ not-false _ c.if-not-count_fits.false))
+    (omega arith, every_more (count_fits s) l.node l.invariant.1 (sym c.count_fits.ensures ∙ c.if-not-count_fits.false))

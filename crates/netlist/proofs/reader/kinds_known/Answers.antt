@@ -24,7 +24,7 @@ pub returns-then-kind_of-gt-LAST_KIND : goal.returns-then-kind_of-gt-LAST_KIND
 unfolding kind_known
 returns-then-kind_of-gt-LAST_KIND c = let s = c.args.netlist.now in
     let i = c.loop-node.node in
-    sym (every_fails (kind_known s) _ i c.loop-test.true (rw (← c.kind_of.ensures) (lt-leb _ _ c.if-kind_of-gt-LAST_KIND.true)))
+    sym (every_fails (kind_known s) _ i c.loop-node-test.true (rw (← c.kind_of.ensures) (lt-leb _ _ c.if-kind_of-gt-LAST_KIND.true)))
 
 -- src/reader.rt:100:5
 pub loop-node-preserved : goal.loop-node-preserved

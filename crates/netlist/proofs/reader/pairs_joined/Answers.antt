@@ -27,7 +27,7 @@ returns-then-offset-start c =
     let s = c.args.netlist.now in
     let l = c.loop-node in
     let apart : pair_joined s l.node ≡ false = rw (← c.offset_of-offset.ensures, ← l.invariant.2) (ne_eqb _ _ c.if-offset-start.true) in
-    rw (every_fails (pair_joined s) _ l.node c.loop-test.true apart)
+    rw (every_fails (pair_joined s) _ l.node c.loop-node-test.true apart)
 
 -- src/reader.rt:115:5
 pub loop-node-preserved : goal.loop-node-preserved

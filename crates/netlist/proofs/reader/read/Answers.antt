@@ -1,20 +1,15 @@
+-- The reader's refusals, in the order of its tests: the first test that fails gives its number.
 use lib.Dec.{eqb, leb}
-use lib.ListN.{drop, length}
+use lib.ListN.{length}
 use mathlib.Core.Bool.{◌&&◌, Bool, false, true}
 use mathlib.Core.List.{List}
 use mathlib.Core.Path.{◌≡◌, ◌∙◌, refl, sym}
-use Prim.Native.Nat.{ℕ, ◌*◌, ◌+◌}
-use borrow.Author.Rules.{rules}
-use borrow.Author.Tests.{eq-eqb, le-leb, lt-leb, ne_eqb, not-false, not-true}
+use Prim.Native.Nat.{◌*◌, ◌+◌, ℕ}
+use borrow.Author.Tests.{eq-eqb, le-leb, lt-leb, ne_eqb}
 use Rattle.netlist.proofs.NetlistLaws.{read-refused, read-sound}
-use Rattle.netlist.proofs.RefusalLaws.{FirstFails, fails_here, fails_later}
-use Rattle.netlist.specs.Netlist.{count_fits, kind_known, node_count, pair_joined, pair_start, pin_count, reader_tests, sizes_allowed, sound, sources_allowed}
+use Rattle.netlist.proofs.RefusalLaws.{fails_here, fails_later}
+use Rattle.netlist.specs.Netlist.{count_fits, kind_known, node_count, pair_joined, pair_start, pin_count, sizes_allowed, sound, sources_allowed}
 use Rattle.values.specs.Lists.{every}
-use Rattle.std.proofs.Common.{rules, ◌≡◌, ◌&&◌, cond, eqb, ◌*◌, ◌+◌, ◌<◌, ℕ, ◌-◌, ◌≤◌, length, ◌/◌, ◌%◌, Bool, true, false, nat_lt, List, [], ◌∷◌, ◌++◌, slice_index_or, slice_set, bit_and, bit_or, Fits, w8, w32, w64, Bor, MutBor}
-use Rattle.gates.specs.Kind.{is_flip_flop}
-use Rattle.netlist.specs.Answer.{number_of}
-use Rattle.values.specs.Lists.{every, u16_at}
-use Rattle.netlist.specs.Netlist.{node_count, pin_count, kind_of, offset_of, length_of, source_of, pair_start, sizes_allowed, kind_known, pair_joined, count_fits, source_allowed, sources_allowed, reading, reading_says}
 use Rattle.netlist.proofs.reader.read.Goals as goal
 
 -- tests 2 to 7, as the definition has them
@@ -36,38 +31,78 @@ Counts bs = every (count_fits bs) (node_count bs)
 abbrev Sources : List ℕ → Bool
 Sources bs = every (sources_allowed bs) (node_count bs)
 
--- a test that fails behind those that have passed is the first that fails
-abbrev First : List ℕ → ℕ → ℕ → Type 0
-First bs k passed = FirstFails bs k (drop passed reader_tests) → FirstFails bs k reader_tests
-
--- src/reader.rt:205:9
 pub returns-then-netlist-lt4 : goal.returns-then-netlist-lt4
-returns-then-netlist-lt4 c = ?
+returns-then-netlist-lt4 c =
+    let bs = c.args.netlist.now in
+    let fails : leb 4 (length bs) ≡ false = lt-leb _ _ c.if-netlist-lt4.true in
+    read-refused _ 1 (fails_here fails refl)
 
--- src/reader.rt:210:9
 pub returns-then-not-sizes_allowed : goal.returns-then-not-sizes_allowed
-returns-then-not-sizes_allowed c = ?
+returns-then-not-sizes_allowed c =
+    let bs = c.args.netlist.now in
+    let p1 : leb 4 (length bs) ≡ true = le-leb 4 _ c.if-netlist-lt4.false in
+    let fails : Sizes bs ≡ false = cc in
+    read-refused _ 2 (fails_later p1 (fails_here fails refl))
 
--- src/reader.rt:213:9
 pub returns-then-netlist-n : goal.returns-then-netlist-n
-returns-then-netlist-n c = ?
+returns-then-netlist-n c =
+    let bs = c.args.netlist.now in
+    let p1 : leb 4 (length bs) ≡ true = le-leb 4 _ c.if-netlist-lt4.false in
+    let p2 : Sizes bs ≡ true = cc in
+    let fails : Whole bs ≡ false = rw (← c.node_count-n.ensures, ← c.pin_count-p.ensures) (ne_eqb _ _ c.if-netlist-n.true) in
+    read-refused _ 3 (fails_later p1 (fails_later p2 (fails_here fails refl)))
 
--- src/reader.rt:216:9
 pub returns-then-not-kinds_known : goal.returns-then-not-kinds_known
-returns-then-not-kinds_known c = ?
+returns-then-not-kinds_known c =
+    let bs = c.args.netlist.now in
+    let p1 : leb 4 (length bs) ≡ true = le-leb 4 _ c.if-netlist-lt4.false in
+    let p2 : Sizes bs ≡ true = cc in
+    let p3 : Whole bs ≡ true = rw (← c.node_count-n.ensures, ← c.pin_count-p.ensures) (eq-eqb _ _ c.if-netlist-n.false) in
+    let fails : Kinds bs ≡ false = cc in
+    read-refused _ 4 (fails_later p1 (fails_later p2 (fails_later p3 (fails_here fails refl))))
 
--- src/reader.rt:219:9
 pub returns-then-not-pairs_joined : goal.returns-then-not-pairs_joined
-returns-then-not-pairs_joined c = ?
+returns-then-not-pairs_joined c =
+    let bs = c.args.netlist.now in
+    let p1 : leb 4 (length bs) ≡ true = le-leb 4 _ c.if-netlist-lt4.false in
+    let p2 : Sizes bs ≡ true = cc in
+    let p3 : Whole bs ≡ true = rw (← c.node_count-n.ensures, ← c.pin_count-p.ensures) (eq-eqb _ _ c.if-netlist-n.false) in
+    let p4 : Kinds bs ≡ true = cc in
+    let fails : Pairs bs ≡ false = cc in
+    read-refused _ 5 (fails_later p1 (fails_later p2 (fails_later p3 (fails_later p4 (fails_here fails refl)))))
 
--- src/reader.rt:222:9
 pub returns-then-not-counts_fit : goal.returns-then-not-counts_fit
-returns-then-not-counts_fit c = ?
+returns-then-not-counts_fit c =
+    let bs = c.args.netlist.now in
+    let p1 : leb 4 (length bs) ≡ true = le-leb 4 _ c.if-netlist-lt4.false in
+    let p2 : Sizes bs ≡ true = cc in
+    let p3 : Whole bs ≡ true = rw (← c.node_count-n.ensures, ← c.pin_count-p.ensures) (eq-eqb _ _ c.if-netlist-n.false) in
+    let p4 : Kinds bs ≡ true = cc in
+    let p5 : Pairs bs ≡ true = cc in
+    let fails : Counts bs ≡ false = cc in
+    read-refused _ 6 (fails_later p1 (fails_later p2 (fails_later p3 (fails_later p4 (fails_later p5 (fails_here fails refl))))))
 
--- src/reader.rt:225:9
 pub returns-then-not-all_sources_allowed : goal.returns-then-not-all_sources_allowed
-returns-then-not-all_sources_allowed c = ?
+returns-then-not-all_sources_allowed c =
+    let bs = c.args.netlist.now in
+    let p1 : leb 4 (length bs) ≡ true = le-leb 4 _ c.if-netlist-lt4.false in
+    let p2 : Sizes bs ≡ true = cc in
+    let p3 : Whole bs ≡ true = rw (← c.node_count-n.ensures, ← c.pin_count-p.ensures) (eq-eqb _ _ c.if-netlist-n.false) in
+    let p4 : Kinds bs ≡ true = cc in
+    let p5 : Pairs bs ≡ true = cc in
+    let p6 : Counts bs ≡ true = cc in
+    let fails : Sources bs ≡ false = cc in
+    read-refused _ 7 (fails_later p1 (fails_later p2 (fails_later p3 (fails_later p4 (fails_later p5 (fails_later p6 (fails_here fails refl)))))))
 
--- src/reader.rt:201:1
 pub returns : goal.returns
-returns c = ?
+returns c =
+    let bs = c.args.netlist.now in
+    let p1 : leb 4 (length bs) ≡ true = le-leb 4 _ c.if-netlist-lt4.false in
+    let p2 : Sizes bs ≡ true = cc in
+    let p3 : Whole bs ≡ true = rw (← c.node_count-n.ensures, ← c.pin_count-p.ensures) (eq-eqb _ _ c.if-netlist-n.false) in
+    let p4 : Kinds bs ≡ true = cc in
+    let p5 : Pairs bs ≡ true = cc in
+    let p6 : Counts bs ≡ true = cc in
+    let p7 : Sources bs ≡ true = cc in
+    (λ i. sound (c.node_count-n.ensures i) (c.pin_count-p.ensures i))
+    ∙ read-sound _ (p1, (p2, (p3, (p4, (p5, (p6, (p7, tt)))))))

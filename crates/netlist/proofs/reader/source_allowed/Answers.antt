@@ -12,12 +12,10 @@ use Rattle.netlist.proofs.reader.source_allowed.Goals as goal
 pub returns-then-source-source_limit : goal.returns-then-source-source_limit
 unfolding source_allowed
 returns-then-source-source_limit c =
-    let e = c.before in
-    rw (← e.before.before.before.requires, ← e.source-limit.ensures, ← e.before.source_of.ensures, lt-ltb _ _ c.if-source-source_limit.true, c.kind_of.ensures)
+    rw (← c.requires, ← c.source_limit.ensures, ← c.source_of-source.ensures, lt-ltb _ _ c.if-source-source_limit.true, c.kind_of.ensures)
 
 -- src/reader.rt:161:1
 pub returns-else-source-source_limit : goal.returns-else-source-source_limit
 unfolding source_allowed
 returns-else-source-source_limit c =
-    let e = c.before in
-    rw (← e.before.before.before.requires, ← e.source-limit.ensures, ← e.before.source_of.ensures, le-ltb _ _ c.if-source-source_limit.false)
+    rw (← c.requires, ← c.source_limit.ensures, ← c.source_of-source.ensures, le-ltb _ _ c.if-source-source_limit.false)

@@ -25,19 +25,19 @@ unfolding sources_allowed
 returns-then-not-source_allowed c =
     let a = c.args in
     let l = c.loop-pin in
-    let fails = sym c.source_allowed.ensures ∙ not-true _ c.if-not-source_allowed.true in
+    let fails = sym c.source_allowed.ensures ∙ c.if-not-source_allowed.true in
     rw (← c.length_of-count.ensures)
-    (sym (every_fails (source_allowed a.netlist.now a.node) _ l.pin c.loop-test.true fails))
+    (sym (every_fails (source_allowed a.netlist.now a.node) _ l.pin c.loop-pin-test.true fails))
 
 -- src/reader.rt:176:5
 pub loop-pin-preserved : goal.loop-pin-preserved
 loop-pin-preserved c = let a = c.args in
     let l = c.loop-pin in
-    (omega arith, every_more (source_allowed a.netlist.now a.node) l.pin l.invariant.1 (sym c.source_allowed.ensures ∙ not-false _ c.if-not-source_allowed.false))
+    (omega arith, every_more (source_allowed a.netlist.now a.node) l.pin l.invariant.1 (sym c.source_allowed.ensures ∙ c.if-not-source_allowed.false))
 
 -- src/reader.rt:170:1
 pub returns : goal.returns
 unfolding sources_allowed
 returns c = let a = c.args in
     let l = c.loop-pin in
-    rw (← c.length_of-count.ensures) (every-done (source_allowed a.netlist.now a.node) l.pin _ l.invariant.1 l.invariant.0 c.loop-test.false)
+    rw (← c.length_of-count.ensures) (every-done (source_allowed a.netlist.now a.node) l.pin _ l.invariant.1 l.invariant.0 c.loop-pin-test.false)
