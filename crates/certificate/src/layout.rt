@@ -13,7 +13,7 @@ pub const HEAD_LENGTH: usize = 25;
 pub const FAULT_LENGTH: usize = 4;
 
 // What stands before the pairs: the fault, c and F, and the split.
-#[derive(Drop)]
+#[derive(Clone, Copy)]
 pub struct Head {
     pub fault: Fault,
     pub c: u8,

@@ -7,14 +7,14 @@ ghost use Rattle.certificate.specs.Inner.Reading.{next_step};
 use crate::step::{STEP_LENGTH, Step, step_at};
 
 // What is handed out: a step, with the position behind it, or that the run is at its end.
-#[derive(Drop)]
+#[derive(Clone, Copy)]
 pub enum NextStep {
     Read(Step, usize),
     End,
 }
 
 // A branch's run, and the position of the step that comes next.
-#[derive(Drop)]
+#[derive(Clone, Copy)]
 pub struct StepReader<'a> {
     pub run: &'a [u8],
     pub at: usize,

@@ -19,7 +19,7 @@ pub const FLIP_FLOP: u8 = 2;
 pub const UNKNOWN: u8 = 2;
 
 // The function of a node's pins. A wire hands on the value of its only pin.
-#[derive(Drop)]
+#[derive(Clone, Copy)]
 pub enum Gate {
     Wire,
     And,
@@ -28,7 +28,7 @@ pub enum Gate {
 }
 
 // The fewest and the most pins, the function of the pins, and whether its value is inverted.
-#[derive(Drop)]
+#[derive(Clone, Copy)]
 pub struct Rule {
     pub least: u16,
     pub most: u16,

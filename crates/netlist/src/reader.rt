@@ -14,7 +14,7 @@ pub const MOST_NODES: u16 = 4096;
 pub const MOST_PINS_IN_ALL: u16 = 16384;
 
 // What reading a netlist finds: N and P of a sound one, or the refusal's number.
-#[derive(Drop)]
+#[derive(Clone, Copy)]
 pub enum Reading {
     Sound(u16, u16),
     Refused(u8),

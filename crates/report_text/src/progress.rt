@@ -13,7 +13,7 @@ use fault_list::{fault_after, first_of};
 use finder::Finding;
 
 // What comes next: a fault is looked at, or all are counted and the total is written, or nothing.
-#[derive(Drop)]
+#[derive(Clone, Copy)]
 pub enum Stage {
     Looking(Fault),
     Counted,
@@ -22,7 +22,7 @@ pub enum Stage {
 
 // How far a report has come: what comes next, the marks and the faults counted, and the length of the
 // line that was written last.
-#[derive(Drop)]
+#[derive(Clone, Copy)]
 pub struct Progress {
     pub stage: Stage,
     pub marks: u32,

@@ -15,7 +15,7 @@ use netlist::Reading;
 use splits::Split;
 
 // The first split that closes, or none, or the refusal's number.
-#[derive(Drop)]
+#[derive(Clone, Copy)]
 pub enum Searched {
     At(Split),
     None,

@@ -20,13 +20,14 @@ use values::{byte_at, store};
 const FEW_PINS: u16 = 8;
 
 // The simulator's answer: the clock step is done, or the refusal's number.
-#[derive(Drop)]
+#[derive(Clone, Copy)]
 pub enum Stepped {
     Done,
     Refused(u8),
 }
 
 // What a node's pin reads, where the node's pins stand at the place.
+#[tactic(auto, using(netlist::proofs::NetlistLaws::source_place))]
 fn pin_value(netlist: &[u8], place: u32, circuit: Circuit, seen: &[u8], node: u16, pin: u16) -> u8
     requires { place ≡ 4 + 5 * node_count netlist.now + 2 * offset_of netlist.now node }
     ensures { result ≡ stuck_or ((lines_in circuit).pin node pin) (at seen.now (source_of netlist.now node pin)) }
@@ -58,6 +59,7 @@ fn assumed_value(
 
 // A gate's function of a node's pins from this pin on, where the value is that of the pins behind it and
 // the assumed pin is taken to read the assumption.
+#[tactic(auto, using(crate::proofs::PinLaws::assumed_pins, crate::proofs::PinLaws::length_assumed, crate::proofs::PinLaws::assumed_at, crate::proofs::PinLaws::function_front))]
 fn joined_from(
     netlist: &[u8],
     place: u32,
@@ -83,6 +85,7 @@ fn joined_from(
 
 // A gate's function of a node's few pins, where the assumed pin is taken to read the assumption. All
 // values are joined, from the last pin on.
+#[tactic(auto, using(crate::proofs::PinLaws::JoinedFrom, crate::proofs::PinLaws::joined_behind))]
 fn function_of_few(
     netlist: &[u8],
     circuit: Circuit,
@@ -120,6 +123,7 @@ fn value_stays(gate: Gate, value: u8) -> bool
 
 // A gate's function of a node's many pins, as `function_of_few` gives it. Pins in front of a value that
 // stays are not looked at.
+#[tactic(auto, using(crate::proofs::PinLaws::JoinedFrom, crate::proofs::PinLaws::joined_behind))]
 fn function_of_many(
     netlist: &[u8],
     circuit: Circuit,
@@ -144,6 +148,7 @@ fn function_of_many(
 }
 
 // What a node makes of its pins' values, where the assumed pin is taken to read the assumption.
+#[tactic(auto, using(crate::proofs::PinLaws::assumed_pins), unfolding(gates::specs::Kind::gate))]
 pub fn gate_assuming(
     netlist: &[u8],
     circuit: Circuit,
@@ -172,6 +177,7 @@ pub fn gate_value(netlist: &[u8], circuit: Circuit, seen: &[u8], node: u16) -> u
 }
 
 // The seen value of a node, from its own place and its sources' places.
+#[tactic(auto, unfolding(netlist::specs::Netlist::net_of))]
 fn seen_value(netlist: &[u8], circuit: Circuit, seen: &[u8], node: u16) -> u8
     ensures { result ≡ seen_by (net_of netlist.now) (lines_in circuit) (at seen.now) (at seen.now) node }
 {
@@ -187,6 +193,7 @@ fn seen_value(netlist: &[u8], circuit: Circuit, seen: &[u8], node: u16) -> u8
 
 // Puts the seen values of the first n nodes into their places, by rising node number: each from its
 // own place and its sources' places.
+#[tactic(auto, using(values::proofs::ListLaws::rewritten_more), unfolding(values::specs::Inner::Rewriting::rewritten, crate::specs::Inner::Places::settled))]
 pub fn settle(netlist: &[u8], n: u16, circuit: Circuit, first: &mut [u8])
     ensures { first.new ≡ settled (net_of netlist.now) (lines_in circuit) n first.old }
 {
@@ -199,6 +206,7 @@ pub fn settle(netlist: &[u8], n: u16, circuit: Circuit, first: &mut [u8])
 }
 
 // What a node latches: what a flip-flop's pin reads, 0 at other nodes.
+#[tactic(auto, unfolding(crate::specs::Clock::latched_by, netlist::specs::Netlist::net_of))]
 fn latched_value(netlist: &[u8], circuit: Circuit, seen: &[u8], node: u16) -> u8
     ensures { result ≡ latched_by (net_of netlist.now) (lines_in circuit) (at seen.now) node }
 {
@@ -212,6 +220,7 @@ fn latched_value(netlist: &[u8], circuit: Circuit, seen: &[u8], node: u16) -> u8
 }
 
 // Puts what each of the first n nodes latches into its place.
+#[tactic(auto, using(values::proofs::ListLaws::rewritten_more), unfolding(values::specs::Inner::Rewriting::rewritten, crate::specs::Inner::Places::latched_into))]
 pub fn latch(netlist: &[u8], n: u16, circuit: Circuit, seen: &[u8], second: &mut [u8])
     ensures { second.new ≡ latched_into (net_of netlist.now) (lines_in circuit) (at seen.now) n second.old }
 {
@@ -224,12 +233,14 @@ pub fn latch(netlist: &[u8], n: u16, circuit: Circuit, seen: &[u8], second: &mut
 }
 
 // The places of inputs and flip-flops are read, and have to hold 0 or 1.
+#[tactic(auto, unfolding(crate::specs::Clock::place_fits, netlist::specs::Netlist::net_of))]
 fn place_fits(netlist: &[u8], first: &[u8], node: u16) -> bool
     ensures { result ≡ place_fits (net_of netlist.now) first.now node }
 {
     !is_given(kind_of(netlist, node)) || byte_at(first, node as usize) <= 1
 }
 
+#[tactic(auto, using(values::proofs::ListLaws::every_more, values::proofs::ListLaws::every_fails), unfolding(values::specs::Lists::every))]
 fn places_fit(netlist: &[u8], n: u16, first: &[u8]) -> bool
     ensures { result ≡ every (place_fits (net_of netlist.now) first.now) n }
 {
@@ -244,6 +255,7 @@ fn places_fit(netlist: &[u8], n: u16, first: &[u8]) -> bool
 }
 
 // Both slices have a place for each node, and the places that are read hold 0 or 1.
+#[tactic(auto, using(crate::proofs::SimulatorLaws::slices_places))]
 fn slices_fit(netlist: &[u8], n: u16, first: &[u8], second: &[u8]) -> bool
     requires { n ≡ (net_of netlist.now).size }
     ensures { result ≡ slices_fit (net_of netlist.now) first.now second.now }
@@ -253,6 +265,7 @@ fn slices_fit(netlist: &[u8], n: u16, first: &[u8], second: &[u8]) -> bool
 
 // One clock step. Once it is done the first slice holds the seen values, the second what is latched;
 // a refusal alters neither.
+#[tactic(auto, using(netlist::proofs::RefusalLaws::fails_here, netlist::proofs::RefusalLaws::fails_later, crate::proofs::SimulatorLaws::slices_fitting, crate::proofs::SimulatorLaws::step_halves))]
 pub fn simulate(netlist: &[u8], circuit: Circuit, first: &mut [u8], second: &mut [u8]) -> Stepped
     ensures { outcome (stepped_says result) first.new second.new ≡ simulation (simulator_call netlist.now circuit first.old second.old) }
 {

@@ -4,7 +4,7 @@ ghost use Rattle.splits.specs.Split.{split};
 ghost use Rattle.splits.specs.Inner.Next.{next_split};
 
 // A node at a frame of the window whose fault frame is c.
-#[derive(Drop)]
+#[derive(Clone, Copy)]
 pub struct Split {
     pub c: u8,
     pub frame: u8,

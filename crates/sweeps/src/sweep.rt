@@ -17,7 +17,7 @@ use knowledge::MOST_FRAMES;
 const CALM_LENGTH: usize = MOST_FRAMES as usize;
 
 // How far a branch has come: the steps made, and whether a contradiction was met.
-#[derive(Drop)]
+#[derive(Clone, Copy)]
 pub struct Progress {
     pub steps: usize,
     pub closed: bool,

@@ -21,21 +21,21 @@ const WORDS: usize = 4;
 const FEW_NODES: usize = 256;
 
 // The values of a line in the good and in the faulty circuit.
-#[derive(Drop)]
+#[derive(Clone, Copy)]
 struct Pair {
     good: u64,
     faulty: u64,
 }
 
 // Where the runs are: the word that was drawn last, and the runs in which an output differs.
-#[derive(Drop)]
+#[derive(Clone, Copy)]
 struct Clock {
     word: u64,
     differ: u64,
 }
 
 // Whether a run seems to show the fault, and which.
-#[derive(Drop)]
+#[derive(Clone, Copy)]
 pub struct Hit {
     pub found: bool,
     pub lane: u8,

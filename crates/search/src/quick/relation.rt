@@ -8,7 +8,7 @@ use values::byte_at;
 // The relation of a node at a frame. Place: where its pins stand in the netlist; circuit: the one that
 // they read in; stuck: whether one of them may be stuck there; row: where the values of their frame begin;
 // out: where the node's own value stands.
-#[derive(Drop)]
+#[derive(Clone, Copy)]
 struct Relation {
     node: u16,
     place: u32,
@@ -21,7 +21,7 @@ struct Relation {
 
 // The pins of an AND or OR that were looked at: how many are unknown (2: two or more), the unknown one that
 // was met last, and whether one has the controlling value.
-#[derive(Drop)]
+#[derive(Clone, Copy)]
 struct Pins {
     unknown: u8,
     last: u16,

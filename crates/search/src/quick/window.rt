@@ -2,7 +2,7 @@
 use circuit::{Circuit, Fault};
 
 // The window of c for a fault in a circuit of n nodes: it has w frames.
-#[derive(Drop)]
+#[derive(Clone, Copy)]
 pub struct Window {
     pub n: u16,
     pub fault: Fault,
