@@ -1,4 +1,6 @@
-use Rattle.std.proofs.Common.{ap, arith, ◌+◌, ◌<◌, ◌≤◌, ◌≡◌, ◌/◌, ◌%◌, ◌∷◌, [], length}
+-- A number of ten or more is the decimal of its tenth, which the call has written, and its last digit behind it (`decimal_more` for the
+-- text, `put_more` for what is written); that it is no longer than ten digits comes from the range of u32 (`decimal-short`).
+use Rattle.std.proofs.Common.{ap, arith, ◌+◌, ◌<◌, ◌≤◌, ◌≡◌, ◌/◌, ◌%◌, length}
 use lib.ListN.{length-append}
 use Rattle.fault_list.specs.Inner.Put.{Put}
 use Rattle.fault_list.specs.Text.{decimal, digit}
