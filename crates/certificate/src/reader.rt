@@ -21,6 +21,7 @@ pub struct StepReader<'a> {
 }
 
 // The work of the reader: the step at a position of a run, and the position behind it.
+#[tactic(auto, unfolding(crate::specs::Inner::Reading::next_step))]
 fn step_from(run: &[u8], at: usize) -> NextStep
     ensures { result ≡ next_step run.now at }
 {

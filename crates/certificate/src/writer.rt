@@ -21,6 +21,7 @@ fn write_step(out: &mut [u8], step: Step)
 
 // Writes a step at a place of a run. A run without room, as where nothing is to be written yet,
 // stays as it is.
+#[tactic(auto, using(values::proofs::SetsLaws::sets_past))]
 pub fn put_step(run: &mut [u8], place: usize, step: Step)
     ensures { run.new ≡ sets run.old place (step_bytes step) }
 {
@@ -58,6 +59,7 @@ fn write_pairs(certificate: &mut [u8], zero: u16, one: u16)
 }
 
 // Writes what stands before the steps; the runs have so many steps.
+#[tactic(auto, unfolding(crate::specs::Written::head_bytes))]
 pub fn write_head(certificate: &mut [u8], head: Head, zero: u16, one: u16)
     ensures { certificate.new ≡ sets certificate.old 0 (head_bytes head (7 * zero) (7 * one)) }
 {
