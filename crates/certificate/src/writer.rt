@@ -21,7 +21,6 @@ fn write_step(out: &mut [u8], step: Step)
 
 // Writes a step at a place of a run. A run without room, as where nothing is to be written yet,
 // stays as it is.
-#[tactic(auto, using(values::proofs::SetsLaws::sets_past))]
 pub fn put_step(run: &mut [u8], place: usize, step: Step)
     ensures { run.new ≡ sets run.old place (step_bytes step) }
 {

@@ -1,7 +1,7 @@
 -- The certificate has its head, and the four numbers of its pairs are read behind it. `right` says that the tests that are made of them are
 -- the layout's definition (by `pairs-by`). Each return behind that place then computes the tests: all up to the last one made were equalities
 -- that hold, and the last one holds or fails.
-use Rattle.std.proofs.Common.{rules, ◌≡◌, ◌&&◌, leb, length, ℕ, ◌+◌, ◌≤◌, ◌%◌, List}
+use Rattle.std.proofs.Common.{◌≡◌, ◌&&◌, leb, length, ℕ, ◌+◌, ◌≤◌, ◌%◌, List}
 use lib.Dec.{eqb}
 use borrow.Author.Tests.{eq-eqb, le-leb, ne_eqb}
 use Rattle.certificate.proofs.LayoutLaws.{pairs-by}

@@ -1,4 +1,4 @@
-use Rattle.std.proofs.Common.{rules, arith, ap, ◌≡◌, ◌∙◌, ◌-◌, length}
+use Rattle.std.proofs.Common.{arith, ap, ◌∙◌, ◌-◌, length}
 use borrow.Rule.Slice.PartMut.{put_mid}
 use Rattle.values.proofs.SetsLaws.{sets_in_part}
 use Rattle.certificate.specs.Written.{step_bytes}
