@@ -162,7 +162,7 @@ fn node_touched(netlist: &[u8], circuit: Circuit, values: &[u8], touched: &[u8],
 }
 
 // Puts into each node's place whether it is touched, by rising node number.
-#[tactic(auto, using(values::proofs::ListLaws::build_store, crate::proofs::TraceAgreement::touched_from), unfolding(crate::specs::Trace::touched_list))]
+#[tactic(auto, unfolding(crate::specs::Trace::touched_list))]
 fn touch_nodes(netlist: &[u8], n: u16, circuit: Circuit, values: &[u8], touched: &mut [u8])
     requires n_value { n ≡ (net_of netlist.now).size }
     requires n_in_bounds { n ≤ length touched.old }
@@ -268,7 +268,6 @@ fn pins_untouched(netlist: &[u8], n: u16, circuit: Circuit, values: &[u8], touch
 
 // Puts what is touched in a frame into the first n bytes, which hold its touched flip-flops, and says
 // whether no output is touched.
-#[tactic(auto, using(crate::proofs::TouchedLaws::list_latched))]
 fn touch_frame(
     netlist: &[u8],
     n: u16,
@@ -321,7 +320,7 @@ fn pins_untouched_at(
 }
 
 // Whether the effect dies, where the first n bytes hold the flip-flops touched at frame c.
-#[tactic(auto, using(crate::proofs::TouchedLaws::dies_open, crate::proofs::TouchedLaws::next_touched), unfolding(circuit::specs::Fault::lines_in))]
+#[tactic(auto, using(crate::proofs::TouchedLaws::dies_open), unfolding(circuit::specs::Fault::lines_in))]
 fn dies_from(
     netlist: &[u8],
     n: u16,
@@ -376,7 +375,7 @@ fn trace_window(
 // the end counts as known to be 0, which no caller may lean on: it says nothing of the circuit, and
 // a window has a byte for each of its places. The last slice has to have a byte for each
 // node and each frame from c on; a shorter one stays as it is, and nothing is said to die.
-#[tactic(auto, using(crate::proofs::TouchedLaws::tracing_long), unfolding(netlist::specs::Netlist::net_of))]
+#[tactic(auto, unfolding(netlist::specs::Netlist::net_of))]
 pub fn effect_dies(
     netlist: &[u8],
     fault: Fault,

@@ -1,41 +1,45 @@
-use lib.Seq.{take_at}
-use Rattle.values.proofs.ListLaws.{take-inside}
-use Rattle.trace.specs.Trace.{touched_list, output_untouched}
-use Rattle.trace.proofs.TouchedLaws.{list_latched, length-touched}
 use Prim.Native.Nat.{ℕ}
+use mathlib.Core.List.{List, ◌++◌}
+use mathlib.Core.Path.{◌≡◌, ◌∙◌, ap, sym}
 use native.Mathlib.Omega.{arith}
-use mathlib.Core.Path.{◌∙◌, sym, ap}
 use lib.ListN.{drop, take}
-use Rattle.netlist.specs.Netlist.{net_of}
-use Rattle.circuit.specs.Fault.{lines_in}
-use Rattle.knowledge.proofs.WindowLaws.{frame-values}
-use borrow.Author.Rules.{rules}
-use Rattle.std.proofs.Common.{rules, ◌≡◌, ◌&&◌, ◌++◌, [], ◌*◌, ◌+◌, ◌≤◌, drop, length, replicate, take, ℕ, ◌-◌, ◌<◌, ◌/◌, ◌%◌, Bool, true, false, nat_eq, nat_lt, List, ◌∷◌, slice_index_or, slice_set, bit_and, bit_or, Fits, w8, w32, w64, Bor, MutBor}
-use Rattle.circuit.specs.Fault.{lines_in, lines_of}
-use Rattle.gates.specs.Kind.{gate}
+use lib.Seq.{take_at}
+use Rattle.circuit.specs.Fault.{StuckLines, lines_in}
+use Rattle.netlist.specs.Netlist.{Net, net_of}
 use Rattle.values.specs.Lists.{at, every}
-use Rattle.netlist.specs.Netlist.{kind_of, net_of, source_of}
+use Rattle.values.proofs.ListLaws.{take-inside}
 use Rattle.knowledge.specs.Inner.Slice.{known_in}
-use Rattle.trace.specs.Trace.{effect_dies, gate_touched, latched_touched, latched_touched_list, latched_untouched, touched_list, node_touched, output_untouched, pin_touched, pins_touched, site_touched, some_touched, untouched_value, untouched_values}
-use Rattle.trace.specs.Inner.Tracing.{traced, tracing}
+use Rattle.knowledge.proofs.WindowLaws.{frame-values}
+use Rattle.trace.specs.Trace.{output_untouched, touched_list}
+use Rattle.trace.proofs.TouchedLaws.{length-touched, list_latched}
 use Rattle.trace.proofs.effect.touch_frame.Goals as goal
 
--- src/effect.rt:271:1
+-- what the frame's pass puts into the first n bytes, where these hold what was latched and kn is what is known in the frame
+frame_list : (net : Net) (D : StuckLines) (v kn : ℕ → ℕ) (l after : List ℕ) (n : ℕ) → n ≡ net.size → v ≡ kn → after ≡ touched_list net D v (at l) ++ drop n l
+    → take n after ≡ touched_list net D kn (at (take n l))
+frame_list net D v kn l after n size e f =
+    ap (take n) f
+    ∙ take_at (touched_list net D v (at l)) (drop n l) n (length-touched net D v (at l) ∙ sym size)
+    ∙ list_latched net D v (at l) (at (take n l)) (λ i h. take-inside l n i (omega (arith, size, h)))
+    ∙ ap (λ (w : ℕ → ℕ). touched_list net D w (at (take n l))) e
+
 pub returns-clause-touched_after : goal.returns-clause-touched_after
 returns-clause-touched_after c =
     let a = c.args in
     let net = net_of a.netlist.now in
-    let D = lines_in a.circuit in
-    let l = a.touched.now in
-    let size = c.requires.n_value in
-    let from = c.tail.ensures ∙ ap (λ (k : ℕ). drop k a.known.now) c.place_of.ensures in
-    let kn = frame-values a.known.now c.tail.result.now a.n net.size a.frame from size in
-    let v = at c.tail.result.now in
-    let list = take_at (touched_list net D v (at l)) (drop a.n l) a.n (length-touched net D v (at l) ∙ sym size) in
-    let same = list_latched net D v (at l) (at (take a.n l)) (λ i h. take-inside l a.n i (omega (arith, size, h))) in
-    let e = ap (take a.n) c.touch-nodes.ensures ∙ list ∙ same ∙ ap (λ (w : ℕ → ℕ). touched_list net D w (at (take a.n l))) kn in
-    (e, c.outputs-untouched.ensures ∙ (λ i. every (output_untouched net (e i)) (size i)))
+    let from = c.tail-values.ensures ∙ ap (λ (k : ℕ). drop k a.known.now) c.place_of.ensures in
+    let e = frame-values a.known.now c.tail-values.result.now a.n net.size a.frame from c.requires.n_value in
+    frame_list net (lines_in a.circuit) (at c.tail-values.result.now) (λ m. known_in a.known.now net.size m a.frame) a.touched.now c.touch_nodes.new.touched a.n
+        c.requires.n_value e c.touch_nodes.ensures
 
--- src/effect.rt:271:1
 pub returns-clause-value : goal.returns-clause-value
-returns-clause-value c = ?
+returns-clause-value c =
+    let a = c.args in
+    let net = net_of a.netlist.now in
+    let size = c.requires.n_value in
+    let from = c.tail-values.ensures ∙ ap (λ (k : ℕ). drop k a.known.now) c.place_of.ensures in
+    let e = frame-values a.known.now c.tail-values.result.now a.n net.size a.frame from size in
+    let f =
+        frame_list net (lines_in a.circuit) (at c.tail-values.result.now) (λ m. known_in a.known.now net.size m a.frame) a.touched.now c.touch_nodes.new.touched a.n
+        size e c.touch_nodes.ensures in
+    c.outputs_untouched.ensures ∙ (λ i. every (output_untouched net (f i)) (size i))
