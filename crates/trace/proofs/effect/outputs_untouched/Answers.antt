@@ -1,4 +1,3 @@
-use borrow.Author.Tests.{not-true, not-false}
 use Rattle.trace.specs.Trace.{output_untouched}
 use Rattle.trace.proofs.TouchedLaws.{output_read}
 use Prim.Native.Nat.{ℕ, ◌≤◌, ◌-◌}
@@ -6,22 +5,14 @@ use mathlib.Core.Path.{◌≡◌, ◌∙◌, sym, refl}
 use mathlib.Core.Bool.{Bool, true}
 use lib.ListN.{take}
 use native.Mathlib.Omega.{arith}
-use borrow.Author.Rules.{rules}
 use Rattle.netlist.specs.Netlist.{net_of}
 use Rattle.values.specs.Lists.{every}
 use Rattle.values.proofs.ListLaws.{every_more, every_fails, every-done}
-use Rattle.std.proofs.Common.{rules, ◌≡◌, ◌&&◌, ◌++◌, [], ◌*◌, ◌+◌, ◌≤◌, drop, length, replicate, take, ℕ, ◌-◌, ◌<◌, ◌/◌, ◌%◌, Bool, true, false, nat_eq, nat_lt, List, ◌∷◌, slice_index_or, slice_set, bit_and, bit_or, Fits, w8, w32, w64, Bor, MutBor}
-use Rattle.circuit.specs.Fault.{lines_in, lines_of}
-use Rattle.gates.specs.Kind.{gate}
-use Rattle.values.specs.Lists.{at, every}
-use Rattle.netlist.specs.Netlist.{kind_of, net_of, source_of}
-use Rattle.knowledge.specs.Inner.Slice.{known_in}
-use Rattle.trace.specs.Trace.{effect_dies, gate_touched, latched_touched, latched_touched_list, latched_untouched, touched_list, node_touched, output_untouched, pin_touched, pins_touched, site_touched, some_touched, untouched_value, untouched_values}
-use Rattle.trace.specs.Inner.Tracing.{traced, tracing}
 use Rattle.trace.proofs.effect.outputs_untouched.Goals as goal
 
--- src/effect.rt:246:13
 pub returns-then-not-output_untouched : goal.returns-then-not-output_untouched
 returns-then-not-output_untouched c =
-    let i = c.loop-node.node in
-    sym (every_fails (untouched c) _ i c.loop-node-test.true (answer t ∙ c.if-not-output_untouched.true))
+    let a = c.args in
+    let test = output_untouched (net_of a.netlist.now) (take a.n a.touched.now) in
+    let answer = sym (output_read (net_of a.netlist.now) a.touched.now a.n c.loop-node.node c.loop-node-test.true) ∙ sym c.output_untouched.ensures in
+    sym (every_fails test _ c.loop-node.node c.loop-node-test.true (answer ∙ c.if-not-output_untouched.true))
