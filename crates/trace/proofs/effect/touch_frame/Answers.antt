@@ -27,19 +27,13 @@ pub returns-clause-touched_after : goal.returns-clause-touched_after
 returns-clause-touched_after c =
     let a = c.args in
     let net = net_of a.netlist.now in
+    let v = c.tail-values.result.now in
+    let size = c.requires.n_value in
     let from = c.tail-values.ensures ∙ ap (λ (k : ℕ). drop k a.known.now) c.place_of.ensures in
-    let e = frame-values a.known.now c.tail-values.result.now a.n net.size a.frame from c.requires.n_value in
-    frame_list net (lines_in a.circuit) (at c.tail-values.result.now) (λ m. known_in a.known.now net.size m a.frame) a.touched.now c.touch_nodes.new.touched a.n
-        c.requires.n_value e c.touch_nodes.ensures
+    let e = frame-values a.known.now v a.n net.size a.frame from size in
+    frame_list net (lines_in a.circuit) (at v) (λ m. known_in a.known.now net.size m a.frame) a.touched.now c.touch_nodes.new.touched a.n size e c.touch_nodes.ensures
 
 pub returns-clause-value : goal.returns-clause-value
 returns-clause-value c =
-    let a = c.args in
-    let net = net_of a.netlist.now in
-    let size = c.requires.n_value in
-    let from = c.tail-values.ensures ∙ ap (λ (k : ℕ). drop k a.known.now) c.place_of.ensures in
-    let e = frame-values a.known.now c.tail-values.result.now a.n net.size a.frame from size in
-    let f =
-        frame_list net (lines_in a.circuit) (at c.tail-values.result.now) (λ m. known_in a.known.now net.size m a.frame) a.touched.now c.touch_nodes.new.touched a.n
-        size e c.touch_nodes.ensures in
-    c.outputs_untouched.ensures ∙ (λ i. every (output_untouched net (f i)) (size i))
+    let f = returns-clause-touched_after c in
+    c.outputs_untouched.ensures ∙ (λ i. every (output_untouched (net_of c.args.netlist.now) (f i)) (c.requires.n_value i))
