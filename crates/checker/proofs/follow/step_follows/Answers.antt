@@ -1,48 +1,56 @@
+-- The tests of a step, one after the other: `follows_by` puts them together, from the first that fails or from all four.
 use lib.Dec.{eqb}
 use Prim.Native.Nat.{ℕ, ◌*◌, ◌+◌}
 use mathlib.Core.Path.{◌≡◌, ◌∙◌, sym, ap, refl}
 use mathlib.Core.Bool.{true, false}
-use borrow.Author.Tests.{eq-eqb, ne_eqb, not-true, not-false}
+use borrow.Author.Tests.{eq-eqb, ne_eqb}
 use Rattle.netlist.specs.Netlist.{Net, net_of}
 use Rattle.values.specs.Lists.{at}
 use Rattle.circuit.specs.Fault.{StuckLines, lines_of}
 use Rattle.certificate.specs.declared.step.Step.{Step}
 use Rattle.knowledge.specs.Window.{in_force, present_below}
-use Rattle.checker.proofs.FollowLaws.{follows_by, within}
-use borrow.Author.Rules.{rules}
-use Rattle.std.proofs.Common.{rules, ◌≡◌, ◌&&◌, suc, ltb, length, ℕ, ◌+◌, ◌-◌, ◌*◌, ◌<◌, ◌≤◌, ◌/◌, ◌%◌, Bool, true, false, nat_eq, List, [], ◌∷◌, ◌++◌, slice_index_or, slice_set, bit_and, bit_or, Fits, w8, w32, w64, Bor, MutBor}
-use Rattle.circuit.specs.Fault.{lines_of}
-use Rattle.values.specs.Lists.{any}
-use Rattle.netlist.specs.Netlist.{net_of}
-use Rattle.knowledge.specs.Window.{present_below, conclusion, line_node, line_frame}
 use Rattle.knowledge.specs.Inner.Slice.{known_in}
-use Rattle.checker.specs.Checker.{same_step, gives_step, follows}
+use Rattle.checker.proofs.FollowLaws.{follows_by, within}
 use Rattle.checker.proofs.follow.step_follows.Goals as goal
 
--- src/follow.rt:93:9
 pub returns-then-not-step_within : goal.returns-then-not-step_within
+unfolding net_of
 returns-then-not-step_within c =
-    let t = sym c.step_within.ensures ∙ c.if-not-step_within.true in
-    follows_by (net b) (lines b) (W b) (known b) (step b) _ (size b) false _ _ _ t refl refl refl
+    let a = c.args in
+    let net = net_of a.netlist.now in
+    let by = follows_by net (present_below a.c (lines_of a.fault)) a.w (known_in a.known.now net.size) a.step _ c.node_count-n.ensures in
+    by false _ _ _ (sym c.step_within.ensures ∙ c.if-not-step_within.true) refl refl refl
 
--- src/follow.rt:101:9
 pub returns-then-not-in_force : goal.returns-then-not-in_force
+unfolding net_of
 returns-then-not-in_force c =
-    let b = from-1 e in
-    let t = sym c.in_force.ensures ∙ c.if-not-in_force.true in
-    follows_by (net b) (lines b) (W b) (known b) (step b) _ (size b) true false _ _ (passed-1 e) t refl refl
+    let a = c.args in
+    let net = net_of a.netlist.now in
+    let by = follows_by net (present_below a.c (lines_of a.fault)) a.w (known_in a.known.now net.size) a.step _ c.node_count-n.ensures in
+    let in_window = sym c.step_within.ensures ∙ c.if-not-step_within.false in
+    by true false _ _ in_window (sym c.in_force.ensures ∙ c.if-not-in_force.true) refl refl
 
--- src/follow.rt:104:9
 pub returns-then-byte_at-value : goal.returns-then-byte_at-value
+unfolding net_of
 returns-then-byte_at-value c =
-    let b = from-1 e1 in
-    let t = eq-eqb _ _ (sym (byte-known c) ∙ c.if-byte_at-value.true) in
-    follows_by (net b) (lines b) (W b) (known b) (step b) _ (size b) true true true _ (passed-1 e1) (passed-2 e2) t refl
+    let a = c.args in
+    let net = net_of a.netlist.now in
+    let by = follows_by net (present_below a.c (lines_of a.fault)) a.w (known_in a.known.now net.size) a.step _ c.node_count-n.ensures in
+    let in_window = sym c.step_within.ensures ∙ c.if-not-step_within.false in
+    let forced = sym c.in_force.ensures ∙ c.if-not-in_force.false in
+    let place = c.place_of.ensures ∙ ap (λ (m : ℕ). a.step.frame * m + a.step.node) c.node_count-n.ensures in
+    let byte_known = c.byte_at.ensures ∙ ap (at a.known.now) place in
+    by true true true _ in_window forced (eq-eqb _ _ (sym byte_known ∙ c.if-byte_at-value.true)) refl
 
--- src/follow.rt:87:1
 pub returns : goal.returns
+unfolding net_of
 returns c =
-    let b = from-1 e1 in
-    let g = c.some_line_gives in
-    let t = ap (λ (v : ℕ). eqb v (step b).value) (sym (byte-known c)) ∙ ne_eqb _ _ c.if-byte_at-value.false in
-    follows_by (net b) (lines b) (W b) (known b) (step b) _ (size b) true true false g.result (passed-1 e1) (passed-2 e2) t (sym g.ensures)
+    let a = c.args in
+    let net = net_of a.netlist.now in
+    let by = follows_by net (present_below a.c (lines_of a.fault)) a.w (known_in a.known.now net.size) a.step _ c.node_count-n.ensures in
+    let in_window = sym c.step_within.ensures ∙ c.if-not-step_within.false in
+    let forced = sym c.in_force.ensures ∙ c.if-not-in_force.false in
+    let place = c.place_of.ensures ∙ ap (λ (m : ℕ). a.step.frame * m + a.step.node) c.node_count-n.ensures in
+    let byte_known = c.byte_at.ensures ∙ ap (at a.known.now) place in
+    let new = ap (λ (v : ℕ). eqb v a.step.value) (sym byte_known) ∙ ne_eqb _ _ c.if-byte_at-value.false in
+    by true true false c.some_line_gives.result in_window forced new (sym c.some_line_gives.ensures)
