@@ -17,6 +17,7 @@ use splits::Split;
 
 // Works out the branch of a split that has the value v, and writes its steps into the run, as far
 // as that has room. A sweep without a step ends it, and so does a contradiction.
+#[tactic(auto, using(simulator::proofs::ClockLaws::Ordered, knowledge::proofs::HoldLaws::fault_says, crate::proofs::StandsLaws::Stands, crate::proofs::StandsLaws::implied_stands), unfolding(crate::specs::Splits::branch_of))]
 pub(crate) fn work_branch(
     netlist: &[u8],
     n: u16,
@@ -50,6 +51,7 @@ pub(crate) fn work_branch(
 }
 
 // Whether branch v of a split closes: by contradiction, or because the fault's effect dies.
+#[tactic(auto, using(trace::proofs::TraceAgreement::dies_agree, trace::proofs::TouchedLaws::tracing_long))]
 fn branch_closes(
     netlist: &[u8],
     n: u16,
@@ -76,6 +78,7 @@ fn branch_closes(
 
 // Whether both branches of a split close, in slices of the window's size. Branch 1 is worked out only
 // where branch 0 closes.
+#[tactic(auto, unfolding(crate::specs::Splits::split_closes, crate::specs::Inner::Trials::last_branch))]
 fn branches_close(
     netlist: &[u8],
     n: u16,
@@ -98,6 +101,7 @@ fn branches_close(
 
 // Whether both branches of a split close. What is known in the branch worked out last is left in the one
 // slice, the other is cleared. Both have to be of the window's size.
+#[tactic(auto, using(crate::proofs::TrialLaws::Stands, crate::proofs::TrialLaws::stands, crate::proofs::TrialLaws::tried_same), unfolding(crate::specs::Inner::Trials::trying, netlist::specs::Netlist::net_of))]
 pub fn both_close(
     netlist: &[u8],
     fault: Fault,
