@@ -17,7 +17,6 @@ use splits::Split;
 
 // Works out the branch of a split that has the value v, and writes its steps into the run, as far
 // as that has room. A sweep without a step ends it, and so does a contradiction.
-#[tactic(auto, using(simulator::proofs::ClockLaws::Ordered, knowledge::proofs::HoldLaws::fault_says, crate::proofs::StandsLaws::Stands, crate::proofs::StandsLaws::implied_stands), unfolding(crate::specs::Splits::branch_of))]
 pub(crate) fn work_branch(
     netlist: &[u8],
     n: u16,
@@ -51,7 +50,6 @@ pub(crate) fn work_branch(
 }
 
 // Whether branch v of a split closes: by contradiction, or because the fault's effect dies.
-#[tactic(auto, using(trace::proofs::TraceAgreement::dies_agree, trace::proofs::TouchedLaws::tracing_long))]
 fn branch_closes(
     netlist: &[u8],
     n: u16,

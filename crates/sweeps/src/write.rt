@@ -29,7 +29,7 @@ fn head_for(fault: Fault, f: u8, split: Split) -> Head
 
 // Writes the certificate of a split in a window that stands: branch 1's steps straight after branch
 // 0's, and then what stands before them. Says how many steps there are.
-#[tactic(auto, using(values::proofs::SetsLaws::sets_in_part), unfolding(crate::specs::Splits::step_count))]
+#[tactic(auto, unfolding(crate::specs::Splits::step_count))]
 fn write_branches(
     netlist: &[u8],
     n: u16,
