@@ -99,7 +99,7 @@ fn branches_close(
 
 // Whether both branches of a split close. What is known in the branch worked out last is left in the one
 // slice, the other is cleared. Both have to be of the window's size.
-#[tactic(auto, using(crate::proofs::TrialLaws::Stands, crate::proofs::TrialLaws::stands, crate::proofs::TrialLaws::tried_same), unfolding(crate::specs::Inner::Trials::trying, netlist::specs::Netlist::net_of))]
+#[tactic(auto, using(crate::proofs::TrialLaws::stands, crate::proofs::TrialLaws::tried_same), unfolding(crate::specs::Inner::Trials::trying, netlist::specs::Netlist::net_of))]
 pub fn both_close(
     netlist: &[u8],
     fault: Fault,

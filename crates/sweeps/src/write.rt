@@ -74,7 +74,7 @@ fn write_branches(
 
 // Writes the certificate of a split, and clears the slice of values. That has to be of the window's size,
 // and the certificate's slice has to have room for every certificate of it. Says how many steps there are.
-#[tactic(auto, using(crate::proofs::TrialLaws::Stands, crate::proofs::TrialLaws::stands), unfolding(crate::specs::Inner::Trials::certifying, netlist::specs::Netlist::net_of))]
+#[tactic(auto, using(crate::proofs::TrialLaws::stands), unfolding(crate::specs::Inner::Trials::certifying, netlist::specs::Netlist::net_of))]
 pub fn write_certificate(
     netlist: &[u8],
     fault: Fault,
