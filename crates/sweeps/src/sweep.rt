@@ -223,7 +223,7 @@ fn note_frame(calm: &mut [u8], frame: u8, still: bool)
 
 // Uses the relations at a frame, unless it is calm: then there is no step to make. Calm frames are noted
 // of a sound netlist only: for any other no room is lent.
-#[tactic(auto, using(simulator::proofs::ClockLaws::Ordered, crate::proofs::CalmLaws::calm_noted_where), unfolding(crate::specs::Inner::Work::CalmFrames))]
+#[tactic(auto, unfolding(crate::specs::Inner::Work::CalmFrames))]
 fn sweep_unless_calm(
     netlist: &[u8],
     n: u16,
@@ -282,7 +282,6 @@ fn sweep_window(
 
 // One sweep, by rising frame, in a window of w frames. There is no room to note calm frames, so none is
 // left out, and nothing is asked of the netlist: that a frame stays calm is shown for sound ones only.
-#[tactic(auto, using(crate::proofs::CalmLaws::calm_none))]
 pub(crate) fn sweep_once(
     netlist: &[u8],
     n: u16,
@@ -302,7 +301,7 @@ pub(crate) fn sweep_once(
 }
 
 // Sweeps until one makes no step or meets a contradiction. At first no frame is calm.
-#[tactic(auto, using(crate::proofs::WorkLaws::goes_on, crate::proofs::CalmLaws::calm_none), unfolding(crate::specs::Sweeps::sweeps))]
+#[tactic(auto, unfolding(crate::specs::Sweeps::sweeps))]
 pub(crate) fn sweep_to_end(
     netlist: &[u8],
     n: u16,

@@ -28,6 +28,5 @@ invariant-loop-node l =
     × (work l.known l.run l.done.steps l.done.closed
     ≡ rising (use_relation (in_bytes net.size) net (present_below l.c (lines_of l.fault)) l.frame) l.node first)
 
--- proposed from the loop's first test
 abbrev pub decreases-loop-node : goal.decreases-loop-node
 decreases-loop-node l = l.n - l.node

@@ -34,6 +34,5 @@ invariant-loop-made l =
     × (length l.calm ≡ most_frames)
     × CalmFrames net S l.calm here
 
--- proposed from the loop's first test
 abbrev pub decreases-loop-made : goal.decreases-loop-made
 decreases-loop-made l = l.most - l.made

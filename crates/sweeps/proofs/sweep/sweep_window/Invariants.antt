@@ -31,6 +31,5 @@ invariant-loop-frame l =
     × (here ≡ rising (sweep_frame (in_bytes net.size) net S) l.frame first)
     × CalmFrames net S l.calm here
 
--- proposed from the loop's first test
 abbrev pub decreases-loop-frame : goal.decreases-loop-frame
 decreases-loop-frame l = l.w - l.frame

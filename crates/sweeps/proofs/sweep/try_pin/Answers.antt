@@ -2,7 +2,9 @@ use Prim.Native.Nat.{ℕ, suc, ◌+◌, ◌*◌, ◌<◌}
 use native.Mathlib.Omega.{arith}
 use mathlib.Core.Path.{◌≡◌, ◌∙◌, ap, subst, sym}
 use Rattle.netlist.specs.Netlist.{Net, net_of, source_of}
+use Rattle.values.specs.Lists.{at}
 use Rattle.circuit.specs.Fault.{StuckLines, lines_of}
+use Rattle.knowledge.specs.Window.{pin_frame, present_below}
 use Rattle.sweeps.specs.Sweeps.{try_line}
 use Rattle.sweeps.specs.Inner.Work.{Work, in_bytes, work}
 use mathlib.Core.Bool.{◌&&◌, true}
@@ -11,28 +13,22 @@ use borrow.Author.Tests.{ltb-true}
 use Rattle.values.proofs.BoolLaws.{and_left, and_right}
 use Rattle.netlist.proofs.NetlistLaws.{pins-at, pins-length}
 use Rattle.sweeps.proofs.KnownPinLaws.{known-pin}
-use borrow.Author.Rules.{rules}
-use Rattle.std.proofs.Common.{rules, ◌≡◌, ◌&&◌, true, suc, ℕ, ◌*◌, ◌+◌, ◌<◌, ◌≤◌, ltb, length, ◌-◌, ◌/◌, ◌%◌, Bool, false, nat_eq, List, [], ◌∷◌, ◌++◌, slice_index_or, slice_set, bit_and, bit_or, Fits, w8, w32, w64, Bor, MutBor}
-use Rattle.circuit.specs.Fault.{lines_of}
-use Rattle.values.specs.Lists.{at}
-use Rattle.netlist.specs.Netlist.{kind_of, length_of, net_of, pin_count, reading, sound, source_of}
-use Rattle.knowledge.specs.Window.{pin_frame, present_below}
-use Rattle.sweeps.specs.Sweeps.{rising, sweep, sweep_frame, sweeps, try_line, use_relation}
-use Rattle.sweeps.specs.Inner.Work.{CalmFrames, frame_noted, in_bytes, tally, work}
 use Rattle.sweeps.proofs.sweep.try_pin.Goals as goal
 
--- src/sweep.rt:108:9
 pub returns-then-source_keeps : goal.returns-then-source_keeps
 unfolding net_of
 returns-then-source_keeps c =
     let a = c.args in
+    let net = net_of a.netlist.now in
+    let S = present_below a.c (lines_of a.fault) in
+    let w = work a.known.now a.run.now a.progress.steps a.progress.closed in
     let bytes = a.netlist.now in
-    let frame = pin_frame ((net s).kind a.node) a.frame in
+    let frame = pin_frame (net.kind a.node) a.frame in
     let hk = subst (λ (x : ℕ). a.pin < x) (sym (pins-length bytes a.node)) c.requires.pin_in_bounds.0 in
-    let e : frame * a.n + source_of bytes a.node a.pin ≡ frame * (net s).size + at ((net s).pins a.node) a.pin =
-    λ i. frame * c.requires.n_value i + sym (pins-at bytes a.node a.pin c.requires.pin_in_bounds.0) i in
+    let e : frame * a.n + source_of bytes a.node a.pin ≡ frame * net.size + at (net.pins a.node) a.pin =
+        λ i. frame * c.requires.n_value i + sym (pins-at bytes a.node a.pin c.requires.pin_in_bounds.0) i in
     let known = ltb (at a.known.now (frame * a.n + source_of bytes a.node a.pin)) 2 in
     let q : (a.settled && known) ≡ true = sym c.source_keeps.ensures ∙ c.if-source_keeps.true in
     let settled = c.requires.closed_value (and_left a.settled known q) in
     let hx = subst (λ (x : ℕ). at a.known.now x < 2) e (ltb-true _ 2 (and_right a.settled known q)) in
-    sym (known-pin (net s) (S s) a.node a.frame a.pin (w s) hk settled hx)
+    sym (known-pin net S a.node a.frame a.pin w hk settled hx)

@@ -1,8 +1,10 @@
+-- The loop tries the lines of the pins' sources in order, and the invariant says so, with two facts about steps: there are as many as
+-- before the pins or more, and where no more, nothing has changed. So while the code finds no step since before the output's line, that
+-- line would still make none (`settled_stays`), which `try_pin` asks where it is told that the relation is settled.
 use Prim.Native.Nat.{ℕ, suc, ◌-◌, ◌<◌, ◌≤◌}
 use native.Mathlib.Omega.{arith}
 use mathlib.Core.Path.{◌≡◌, ◌∙◌, ap, refl, sym}
 use lib.ListN.{length}
-use borrow.Author.Rules.{rules}
 use Rattle.netlist.specs.Netlist.{Net, length_of, net_of}
 use Rattle.circuit.specs.Fault.{StuckLines, lines_of}
 use Rattle.knowledge.specs.Window.{present_below}
@@ -12,42 +14,36 @@ use borrow.Author.Tests.{eqb-true}
 use Rattle.sweeps.proofs.KnownPinLaws.{pin_grows, pin-still, settled_stays}
 use Rattle.sweeps.proofs.RisingLaws.{rising_more}
 use Rattle.sweeps.proofs.WorkLaws.{pins-tally}
-use Rattle.std.proofs.Common.{rules, ◌≡◌, ◌&&◌, true, suc, ℕ, ◌*◌, ◌+◌, ◌<◌, ◌≤◌, ltb, length, ◌-◌, ◌/◌, ◌%◌, Bool, false, nat_eq, List, [], ◌∷◌, ◌++◌, slice_index_or, slice_set, bit_and, bit_or, Fits, w8, w32, w64, Bor, MutBor}
-use Rattle.circuit.specs.Fault.{lines_of}
-use Rattle.values.specs.Lists.{at}
-use Rattle.netlist.specs.Netlist.{kind_of, length_of, net_of, pin_count, reading, sound, source_of}
-use Rattle.knowledge.specs.Window.{pin_frame, present_below}
-use Rattle.sweeps.specs.Sweeps.{rising, sweep, sweep_frame, sweeps, try_line, use_relation}
-use Rattle.sweeps.specs.Inner.Work.{CalmFrames, frame_noted, in_bytes, tally, work}
 use Rattle.sweeps.proofs.sweep.try_pins.Goals as goal
 
--- src/sweep.rt:141:9
 pub try_pin-done-requires-clause-closed_bound : goal.try_pin-done-requires-clause-closed_bound
 try_pin-done-requires-clause-closed_bound c =
-    let test = c.loop-pin-test.true in
+    let a = c.args in
+    let net = net_of a.netlist.now in
+    let S = present_below a.c (lines_of a.fault) in
+    let w = work a.known.now a.run.now a.progress.steps a.progress.closed in
     let l = c.loop-pin in
-    let s = start h in
-    let a = s.args in
-    let p = s.pre.1.1 in
-    let few : l.pin < 65535 = omega (arith, test) in
-    let inside : l.pin < length_of a.netlist.now a.node = omega (arith, test, c.length_of-count.ensures) in
-    let settled = settled_stays (net s) (S s) a.node a.frame (w s) (here h) l.invariant.4 l.invariant.5 a.start p.0 p.1 in
-    (s.pre.0, (omega (arith, same-tally h, s.pre.1.0), ((inside, few), λ z. settled (eqb-true _ _ z))))
+    let here = work l.known l.run l.done.steps l.done.closed in
+    let same_tally : tally here ≡ tally w = ap tally l.invariant.3 ∙ pins-tally net S a.node a.frame l.pin w in
+    omega (arith, same_tally, c.requires.closed_bound)
 
--- src/sweep.rt:139:5
 pub loop-pin-preserved : goal.loop-pin-preserved
 loop-pin-preserved c =
-    let p = c.try_pin-done in
+    let a = c.args in
+    let net = net_of a.netlist.now in
+    let S = present_below a.c (lines_of a.fault) in
+    let w = work a.known.now a.run.now a.progress.steps a.progress.closed in
     let l = c.loop-pin in
-    let s = start h in
-    let a = s.args in
+    let here = work l.known l.run l.done.steps l.done.closed in
+    let p = c.try_pin-done in
+    let tried = λ (i : ℕ). try_line (in_bytes net.size) net S a.node a.frame (suc i) in
     let q = ap (λ (u : Work). u.steps) p.ensures in
-    let grows = pin_grows (net s) (S s) a.node a.frame (w s) (here h) l.invariant.4 l.invariant.5 (suc l.pin) in
-    let still = pin-still (net s) (S s) a.node a.frame (w s) (here h) l.invariant.4 l.invariant.5 (suc l.pin) in (
+    let grows = pin_grows net S a.node a.frame w here l.invariant.4 l.invariant.5 (suc l.pin) in
+    let still = pin-still net S a.node a.frame w here l.invariant.4 l.invariant.5 (suc l.pin) in (
       omega (arith, c.loop-pin-test.true),
-      p.auto.1.1.1.1.1.1.1.1.0 ∙ l.invariant.1,
-      p.auto.1.1.1.1.1.1.1.1.1.0 ∙ l.invariant.2,
-      p.ensures ∙ ap (tried s l.pin) l.invariant.3 ∙ sym (rising_more (tried s) l.pin (w s)),
+      p.auto.known ∙ l.invariant.1,
+      p.auto.run ∙ l.invariant.2,
+      p.ensures ∙ ap (tried l.pin) l.invariant.3 ∙ sym (rising_more tried l.pin w),
       omega (arith, q, grows),
       λ e. p.ensures ∙ still (sym q ∙ e),
     )
