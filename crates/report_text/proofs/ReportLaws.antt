@@ -44,6 +44,7 @@ NumbersTo b [] = Unit {0}
 NumbersTo b (t ∷ ts) = (t.number ≤ b) × NumbersTo b ts
 
 fails_to : {A : Type 0} (b : ℕ) {a : A} {k : ℕ} (ts : List (Test A)) → NumbersTo b ts → FirstFails a k ts → k ≤ b
+fails_to {A = A} b {a = a} {k = k} [] p x'' = elim x'' [ ]
 fails_to b (t ∷ ts) p (fails_here f e) = subst (λ (k : ℕ). k ≤ b) e p.0
 fails_to b (t ∷ ts) p (fails_later q f) = fails_to b ts p.1 f
 

@@ -9,6 +9,7 @@ use circuit::Fault;
 use fault_list::{put_field, put_text};
 
 // The line of a mark: the fault, c, and the split that its certificate names. Says how long it is.
+#[tactic(auto, using(fault_list::proofs::TextLaws::runs), unfolding(crate::specs::Lines::mark_line))]
 pub(crate) fn mark_line(out: &mut [u8], fault: Fault, c: u8, certificate: &[u8]) -> usize
     ensures value { (result ≡ length (mark_line fault (split c (split_frame certificate.now) (split_node certificate.now)))) × (result ≤ line_length) }
     ensures out_after { out.new ≡ sets out.old 0 (mark_line fault (split c (split_frame certificate.now) (split_node certificate.now))) }
@@ -24,6 +25,7 @@ pub(crate) fn mark_line(out: &mut [u8], fault: Fault, c: u8, certificate: &[u8])
 }
 
 // The last line: so many marks among so many faults.
+#[tactic(auto, using(fault_list::proofs::TextLaws::runs), unfolding(crate::specs::Lines::total_line))]
 pub(crate) fn total_line(out: &mut [u8], marks: u32, faults: u32) -> usize
     ensures value { (result ≡ length (total_line marks faults)) × (result ≤ line_length) }
     ensures out_after { out.new ≡ sets out.old 0 (total_line marks faults) }
@@ -34,6 +36,7 @@ pub(crate) fn total_line(out: &mut [u8], marks: u32, faults: u32) -> usize
 }
 
 // The line of a refusal.
+#[tactic(auto, using(fault_list::proofs::TextLaws::runs), unfolding(crate::specs::Lines::refused_line))]
 pub(crate) fn refused_line(out: &mut [u8], number: u8) -> usize
     ensures value { (result ≡ length (refused_line number)) × (result ≤ line_length) }
     ensures out_after { out.new ≡ sets out.old 0 (refused_line number) }

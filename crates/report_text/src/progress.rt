@@ -37,6 +37,7 @@ pub const LINE_LENGTH: usize = 80;
 const GIVEN_LENGTH: usize = 2;
 
 // The beginning of the report on an input: B, F, netlist.
+#[tactic(auto, using(crate::proofs::ReportLaws::begun_writes), unfolding(crate::specs::Turns::begun))]
 pub fn begin(input: &[u8]) -> Progress
     ensures value { result ≡ begun input.now }
     ensures writes_report { WritesReport input.now result }
@@ -75,6 +76,7 @@ fn ended(marks: u32, faults: u32, length: usize) -> Progress
 }
 
 // A fault that the circuit has is looked at; behind the last one they are all counted.
+#[tactic(auto, unfolding(crate::specs::Turns::stage_at, netlist::specs::Netlist::net_of))]
 fn stage_at(netlist: &[u8], fault: Fault) -> Stage
     ensures { result ≡ stage_at (net_of netlist.now) fault }
 {
@@ -100,6 +102,7 @@ fn looked_at(netlist: &[u8], fault: Fault, marks: u32, faults: u32, length: usiz
 }
 
 // Looks at a fault: its line is written where the finder marks it, the refusal's where it refuses.
+#[tactic(auto, using(crate::proofs::TurnLaws::Said, crate::proofs::TurnLaws::said, crate::proofs::TurnLaws::turns_fall), unfolding(crate::specs::Turns::made_for))]
 fn look_at(
     input: &[u8],
     fault: Fault,
@@ -134,6 +137,7 @@ fn look_at(
 }
 
 // Writes the next line of the report, which may be empty, and says how far the report has come.
+#[tactic(auto, unfolding(crate::specs::Turns::turn_in, crate::specs::Turns::fault_turn))]
 pub fn next_line(
     input: &[u8],
     progress: Progress,

@@ -1,0 +1,38 @@
+-- The line is six fields, each put straight behind the one before. A field that was put is a run of bytes (`run-put`), and runs that
+-- follow each other are one (`runs`), which is the line.
+use Rattle.fault_list.proofs.TextLaws.{run-put, runs}
+use Rattle.fault_list.specs.Inner.Put.{put_at}
+use Rattle.fault_list.specs.Text.{field, line_feed, space}
+use Rattle.report_text.specs.Lines.{line_length, mark_line}
+use Rattle.circuit.specs.Fault.{site_byte}
+use Rattle.certificate.specs.Certificate.{split_frame, split_node}
+use Rattle.certificate.specs.declared.layout.Head.{Head}
+use Rattle.std.proofs.Common.{◌≡◌, ℕ, ◌+◌, ◌≤◌, refl, ap, ◌∙◌, arith}
+use Rattle.report_text.proofs.lines.mark_line.Goals as goal
+
+pub returns-clause-out_after : goal.returns-clause-out_after
+unfolding mark_line
+returns-clause-out_after c =
+    let a = c.args in
+    let bs = a.certificate.now in
+    let f₁ = c.put_field-end in
+    let f₂ = c.put_field-end-2 in
+    let f₃ = c.put_field-end-3 in
+    let f₄ = c.put_field-end-4 in
+    let f₅ = c.put_field-end-5 in
+    let f₆ = c.put_field in
+    let e₂ = f₁.result + f₂.result in
+    let e₃ = e₂ + f₃.result in
+    let e₄ = e₃ + f₄.result in
+    let e₅ = e₄ + f₅.result in
+    let start : f₁.result ≡ 0 + f₁.result = omega arith in
+    let site = ap (λ (x : ℕ). put_at f₁.new.out f₁.result (field x space)) c.site_byte.ensures in
+    let node = ap (λ (h : Head). put_at f₄.new.out e₄ (field h.node space)) c.head_of-head.ensures in
+    let frame = ap (λ (h : Head). put_at f₅.new.out e₅ (field h.frame line_feed)) c.head_of-head.ensures in
+    let r₁ = run-put a.out.now 0 (field a.fault.node space) f₁.ensures.out_after start in
+    let r₂ = run-put f₁.new.out f₁.result (field (site_byte a.fault.site) space) (f₂.ensures.out_after ∙ site) refl in
+    let r₃ = run-put f₂.new.out e₂ (field a.fault.stuck space) f₃.ensures.out_after refl in
+    let r₄ = run-put f₃.new.out e₃ (field a.c space) f₄.ensures.out_after refl in
+    let r₅ = run-put f₄.new.out e₄ (field (split_node bs) space) (f₅.ensures.out_after ∙ node) refl in
+    let r₆ = run-put f₅.new.out e₅ (field (split_frame bs) line_feed) (f₆.ensures.out_after ∙ frame) refl in
+    (runs r₁ (runs r₂ (runs r₃ (runs r₄ (runs r₅ r₆))))).holds

@@ -1,0 +1,18 @@
+use Rattle.fault_list.proofs.TextLaws.{run-put, runs}
+use Rattle.fault_list.specs.Inner.Put.{Put}
+use Rattle.fault_list.specs.Text.{field, line_feed, space}
+use Rattle.report_text.specs.Lines.{total_line}
+use Rattle.std.proofs.Common.{◌≡◌, ◌+◌, [], ◌∷◌, refl, ap, arith}
+use Rattle.report_text.proofs.lines.total_line.Goals as goal
+
+pub returns-clause-out_after : goal.returns-clause-out_after
+unfolding total_line
+returns-clause-out_after c =
+    let a = c.args in
+    let k = c.put_field-end in
+    let t = c.put_text-end in
+    let m = c.put_field in
+    let start : k.result ≡ 0 + k.result = omega arith in
+    let word = run-put k.new.out k.result (111 ∷ 102 ∷ space ∷ []) t.ensures refl in
+    let last = runs word (run-put t.new.out (k.result + t.result) (field a.faults line_feed) m.ensures.out_after refl) in
+    (runs (run-put a.out.now 0 (field a.marks space) k.ensures.out_after start) last).holds
