@@ -28,7 +28,7 @@ pub fn print_to(output: impl Into<Stdio>, pieces: &[&[u8]]) -> String {
     let path = top_folder().join("target/bin/report");
     assert!(
         path.is_file(),
-        "{} is missing: build it with scripts/build check report",
+        "{} is missing: build it with scripts/build program report",
         path.display()
     );
     let mut program = Command::new(path)
