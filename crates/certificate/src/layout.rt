@@ -62,6 +62,7 @@ pub fn run_length(certificate: &[u8], v: u8) -> u32
 
 // The certificate has its head, the first run follows it, the second run follows the first and ends
 // the certificate, and both have whole steps.
+#[tactic(auto, unfolding(crate::specs::Certificate::pairs_right))]
 pub fn layout_right(certificate: &[u8]) -> bool
     ensures { result ≡ (leb head_length (length certificate.now) && pairs_right certificate.now) }
 {

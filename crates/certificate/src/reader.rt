@@ -1,6 +1,6 @@
 // The step reader: hands out the steps of one branch's run, one after the other. Functions over the
-// struct are thin, since the prover covers no function that has a reference in a struct: they only
-// make it or take it apart, and leave the work to a function of the slice and the number.
+// struct are thin: they only make it or take it apart, and leave the work to a function of the slice
+// and the number.
 ghost use Rattle.std.specs.Prelude.{◌≡◌};
 ghost use Rattle.certificate.specs.Inner.Reading.{next_step};
 
@@ -21,6 +21,7 @@ pub struct StepReader<'a> {
 }
 
 // The work of the reader: the step at a position of a run, and the position behind it.
+#[tactic(auto, unfolding(crate::specs::Inner::Reading::next_step))]
 fn step_from(run: &[u8], at: usize) -> NextStep
     ensures { result ≡ next_step run.now at }
 {
@@ -51,7 +52,7 @@ impl<'a> StepReader<'a> {
 }
 
 // The step that a reader at this position of a run hands out. With plain parameters, so that its
-// callers are covered.
+// callers need no reader.
 pub fn read_step(run: &[u8], at: usize) -> NextStep
     ensures { result ≡ next_step run.now at }
 {

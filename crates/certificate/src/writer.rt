@@ -58,6 +58,7 @@ fn write_pairs(certificate: &mut [u8], zero: u16, one: u16)
 }
 
 // Writes what stands before the steps; the runs have so many steps.
+#[tactic(auto, unfolding(crate::specs::Written::head_bytes))]
 pub fn write_head(certificate: &mut [u8], head: Head, zero: u16, one: u16)
     ensures { certificate.new ≡ sets certificate.old 0 (head_bytes head (7 * zero) (7 * one)) }
 {

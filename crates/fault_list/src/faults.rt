@@ -56,6 +56,7 @@ pub fn first_of(netlist: &[u8], node: u16) -> Fault
 
 // The fault that follows. Behind the last comes one of a node that the circuit does not have, and there
 // the list ends: it is followed by itself.
+#[tactic(auto, unfolding(crate::specs::Inner::Walk::next_fault, crate::specs::Faults::follows_at, crate::specs::Faults::behind_site, netlist::specs::Netlist::net_of))]
 pub fn fault_after(netlist: &[u8], fault: Fault) -> Fault
     ensures { result ≡ next_fault (net_of netlist.now) fault }
 {

@@ -15,6 +15,7 @@ fn store_behind(out: &mut [u8], place: usize, offset: usize, value: u8)
 }
 
 // Writes a number in decimal, from a place on, and says how long it is.
+#[tactic(auto, using(crate::proofs::TextLaws::decimal_one))]
 pub fn put_decimal(out: &mut [u8], place: usize, number: u32) -> usize
     ensures out_after { put result out.new ≡ put_at out.old place (decimal number) }
     ensures upper_bound { result ≤ number_length }
@@ -39,6 +40,7 @@ pub fn put_field(out: &mut [u8], place: usize, number: u32, after: u8) -> usize
 }
 
 // Writes some text, and says how long it is.
+#[tactic(auto, using(crate::proofs::TextLaws::text_more))]
 pub fn put_text(out: &mut [u8], place: usize, text: &[u8]) -> usize
     ensures { put result out.new ≡ put_at out.old place text.now }
 {

@@ -12,6 +12,7 @@ use circuit::{Circuit, Fault, NOT_STUCK};
 use gates::{FLIP_FLOP, INPUT, UNKNOWN};
 
 // The fault is present in frames below c, and absent from c on.
+#[tactic(auto, using(crate::proofs::RelationLaws::present_below_lem, crate::proofs::RelationLaws::absent_from), unfolding(circuit::specs::Fault::lines_in))]
 fn circuit_in(fault: Fault, c: u8, frame: u8) -> Circuit
     ensures { lines_in result ≡ present_below c (lines_of fault) frame }
 {
@@ -44,6 +45,7 @@ fn has_relation(kind: u8, frame: u8) -> bool
 }
 
 // Whether a node has a relation at a frame through which something may be concluded.
+#[tactic(auto, using(gates::proofs::ValueLaws::unknown_high), unfolding(crate::specs::Window::in_force, crate::specs::Window::held, netlist::specs::Netlist::net_of))]
 pub fn in_force(netlist: &[u8], fault: Fault, c: u8, node: u16, frame: u8) -> bool
     ensures { result ≡ in_force (net_of netlist.now) (present_below c (lines_of fault)) node frame }
 {
@@ -56,6 +58,7 @@ pub fn in_force(netlist: &[u8], fault: Fault, c: u8, node: u16, frame: u8) -> bo
 
 // What is concluded of a pin's source, where the output is known: the value whose opposite would
 // make the output another. Through a stuck pin nothing is concluded.
+#[tactic(auto, using(crate::proofs::WindowLaws::against, crate::proofs::WindowLaws::tried), unfolding(netlist::specs::Netlist::net_of))]
 fn pin_conclusion(
     netlist: &[u8],
     circuit: Circuit,
@@ -98,6 +101,7 @@ pub fn pin_source(netlist: &[u8], node: u16, pin: u16) -> u16
 // line k + 1 is pin k. The value is UNKNOWN or above where nothing is concluded. What is known lies
 // in bytes, frame by frame, one for each node; a place past the end counts as known to be 0, which
 // no caller may lean on: it says nothing of the circuit, and a window has a byte for each place.
+#[tactic(auto, using(crate::proofs::WindowLaws::conclude_output, crate::proofs::WindowLaws::conclude_pin), unfolding(netlist::specs::Netlist::net_of))]
 pub fn conclude(
     netlist: &[u8],
     fault: Fault,

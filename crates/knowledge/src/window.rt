@@ -19,6 +19,7 @@ pub fn place_of(n: u16, node: u16, frame: u16) -> usize
 }
 
 // Holds a faulted node at its stuck value in a frame.
+#[tactic(auto, unfolding(circuit::specs::Fault::lines_in))]
 fn hold_frame(n: u16, fault: Fault, frame: u16, known: &mut [u8])
     ensures { known.new ≡ set known.old (frame * n + fault.node) ((lines_of fault).node fault.node) }
 {
@@ -28,6 +29,7 @@ fn hold_frame(n: u16, fault: Fault, frame: u16, known: &mut [u8])
 }
 
 // Puts what is known at the start: below frame c a faulted node is held at its stuck value.
+#[tactic(auto, unfolding(crate::specs::Inner::Slice::hold_frames))]
 fn hold_fault(n: u16, fault: Fault, c: u8, known: &mut [u8])
     ensures { known.new ≡ hold_frames n fault c (replicate (length known.old) 2) }
 {
@@ -41,6 +43,7 @@ fn hold_fault(n: u16, fault: Fault, c: u8, known: &mut [u8])
 
 // Begins a branch, whatever stood in the slice: the split has the value v. Says whether that contradicts a
 // held value.
+#[tactic(auto, unfolding(netlist::specs::Netlist::net_of, crate::specs::Inner::Slice::begin_in, crate::specs::Inner::Slice::begin_at))]
 pub fn begin_branch(
     netlist: &[u8],
     fault: Fault,

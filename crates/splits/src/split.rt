@@ -32,6 +32,7 @@ impl Split {
 
     // The following split, in a circuit of n nodes, where a window has f frames behind its fault
     // frame: by c, then frame, then node. A split of a window above 255 frames stays.
+    #[tactic(auto, unfolding(crate::specs::Inner::Next::next_split))]
     pub fn next(self, n: u16, f: u8) -> Split
         ensures { result ≡ next_split n f self }
     {

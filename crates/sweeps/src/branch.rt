@@ -76,6 +76,7 @@ fn branch_closes(
 
 // Whether both branches of a split close, in slices of the window's size. Branch 1 is worked out only
 // where branch 0 closes.
+#[tactic(auto, unfolding(crate::specs::Splits::split_closes, crate::specs::Inner::Trials::last_branch))]
 fn branches_close(
     netlist: &[u8],
     n: u16,
@@ -98,6 +99,7 @@ fn branches_close(
 
 // Whether both branches of a split close. What is known in the branch worked out last is left in the one
 // slice, the other is cleared. Both have to be of the window's size.
+#[tactic(auto, using(crate::proofs::TrialLaws::stands, crate::proofs::TrialLaws::tried_same), unfolding(crate::specs::Inner::Trials::trying, netlist::specs::Netlist::net_of))]
 pub fn both_close(
     netlist: &[u8],
     fault: Fault,

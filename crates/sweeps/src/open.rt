@@ -8,6 +8,7 @@ use gates::UNKNOWN;
 use knowledge::MOST_FRAMES;
 
 // Whether a set has what is known from the start: below frame c a faulted node has its stuck value.
+#[tactic(auto, using(crate::proofs::GuessLaws::held_more, crate::proofs::TrialLaws::has_all, crate::proofs::TrialLaws::has_missing, crate::proofs::TrialLaws::has_nowhere), unfolding(circuit::specs::Fault::lines_in))]
 fn holds_fault(n: u16, fault: Fault, c: u8, known: &[u8]) -> bool
     ensures { result ≡ has_held n fault c known.now }
 {
@@ -28,6 +29,7 @@ fn holds_fault(n: u16, fault: Fault, c: u8, known: &[u8]) -> bool
 }
 
 // Whether there are slices for the window of c: not too many frames, with so many places each.
+#[tactic(auto, unfolding(crate::specs::Inner::Trials::work_fits))]
 fn slices_fit(n: u16, c: u8, f: u8, known: &[u8], touched: &[u8]) -> bool
     ensures { result ≡ work_fits n c f known.now touched.now }
 {
@@ -44,6 +46,7 @@ fn slices_fit(n: u16, c: u8, f: u8, known: &[u8], touched: &[u8]) -> bool
 
 // Whether a set, wherever it is from, keeps each of its values open as a split: it has the values that
 // the fault holds, nothing is concluded from it that it has not, and in it the effect does not die.
+#[tactic(auto, using(crate::proofs::TrialLaws::slices_fit_says, crate::proofs::WorkLaws::open_tally), unfolding(crate::specs::Inner::Trials::opening, netlist::specs::Netlist::net_of))]
 pub fn is_open_set(
     netlist: &[u8],
     fault: Fault,

@@ -84,6 +84,7 @@ fn source_keeps(
 
 // Takes what a relation concludes of the source of a pin. Where the relation is settled, its output's
 // line being no step, a source that is known already keeps its value: nothing is worked out.
+#[tactic(auto, using(values::proofs::BoolLaws::and_left, values::proofs::BoolLaws::and_right), unfolding(netlist::specs::Netlist::net_of))]
 fn try_pin(
     netlist: &[u8],
     n: u16,
@@ -114,6 +115,7 @@ fn try_pin(
 
 // Takes what a relation concludes of its pins' sources, in order. The progress is that after the
 // output's line, and there were so many steps before it.
+#[tactic(auto, using(crate::proofs::KnownPinLaws::pin_grows, crate::proofs::KnownPinLaws::settled_stays, crate::proofs::RisingLaws::rising_more), unfolding(crate::specs::Sweeps::rising))]
 fn try_pins(
     netlist: &[u8],
     n: u16,
@@ -146,6 +148,7 @@ fn try_pins(
 
 // Uses the relation of a node at a frame: first the output, then the pins in order. Of a pin nothing
 // is concluded where the output is unknown.
+#[tactic(auto, using(crate::proofs::KnownPinLaws::line_grows, crate::proofs::WorkLaws::relation_idle, crate::proofs::WorkLaws::relation_output))]
 fn use_relation(
     netlist: &[u8],
     n: u16,
@@ -173,6 +176,7 @@ fn use_relation(
 }
 
 // Uses the relations at a frame, by rising node. A contradiction ends it at once.
+#[tactic(auto, using(crate::proofs::RisingLaws::rising_more, crate::proofs::WorkLaws::relations_closed, crate::proofs::WorkLaws::relations_tally), unfolding(crate::specs::Sweeps::rising, crate::specs::Sweeps::sweep_frame))]
 fn sweep_frame(
     netlist: &[u8],
     n: u16,
@@ -202,6 +206,7 @@ fn sweep_frame(
 // Notes what the sweep of a frame has shown. Without a step the frame is calm: it would make none
 // again. A step tells something new of the frame or the one before, and each frame reads itself and
 // the one before: so the frame and both its neighbours may have something to conclude.
+#[tactic(auto, unfolding(crate::specs::Inner::Work::frame_noted))]
 fn note_frame(calm: &mut [u8], frame: u8, still: bool)
     ensures { calm.new ≡ frame_noted calm.old frame still }
 {
@@ -218,6 +223,7 @@ fn note_frame(calm: &mut [u8], frame: u8, still: bool)
 
 // Uses the relations at a frame, unless it is calm: then there is no step to make. Calm frames are noted
 // of a sound netlist only: for any other no room is lent.
+#[tactic(auto, unfolding(crate::specs::Inner::Work::CalmFrames))]
 fn sweep_unless_calm(
     netlist: &[u8],
     n: u16,
@@ -246,6 +252,7 @@ fn sweep_unless_calm(
 }
 
 // One sweep, by rising frame, in a window of w frames; those that are calm are left out.
+#[tactic(auto, using(crate::proofs::RisingLaws::rising_more), unfolding(crate::specs::Sweeps::rising, crate::specs::Sweeps::sweep))]
 fn sweep_window(
     netlist: &[u8],
     n: u16,
@@ -294,6 +301,7 @@ pub(crate) fn sweep_once(
 }
 
 // Sweeps until one makes no step or meets a contradiction. At first no frame is calm.
+#[tactic(auto, unfolding(crate::specs::Sweeps::sweeps))]
 pub(crate) fn sweep_to_end(
     netlist: &[u8],
     n: u16,

@@ -8,6 +8,7 @@ use splits::Split;
 
 // Whether the netlist is sound, the fault exists, and the split lies in a window that is not too long and
 // has so many places.
+#[tactic(auto, unfolding(netlist::specs::Netlist::net_of, crate::specs::Inner::Trials::window_stands))]
 pub(crate) fn window_stands(
     netlist: &[u8],
     fault: Fault,

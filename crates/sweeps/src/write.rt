@@ -29,6 +29,7 @@ fn head_for(fault: Fault, f: u8, split: Split) -> Head
 
 // Writes the certificate of a split in a window that stands: branch 1's steps straight after branch
 // 0's, and then what stands before them. Says how many steps there are.
+#[tactic(auto, unfolding(crate::specs::Splits::step_count))]
 fn write_branches(
     netlist: &[u8],
     n: u16,
@@ -73,6 +74,7 @@ fn write_branches(
 
 // Writes the certificate of a split, and clears the slice of values. That has to be of the window's size,
 // and the certificate's slice has to have room for every certificate of it. Says how many steps there are.
+#[tactic(auto, using(crate::proofs::TrialLaws::stands), unfolding(crate::specs::Inner::Trials::certifying, netlist::specs::Netlist::net_of))]
 pub fn write_certificate(
     netlist: &[u8],
     fault: Fault,

@@ -34,6 +34,7 @@ fn touched_below(touched: &[u8], limit: u16, node: u16) -> u8
 }
 
 // A pin is touched if its source is, and a faulted one by the rule for faulted lines.
+#[tactic(auto, unfolding(crate::specs::Trace::pin_touched))]
 fn pin_touched(
     netlist: &[u8],
     circuit: Circuit,
@@ -52,6 +53,7 @@ fn pin_touched(
 }
 
 // Whether one of a node's pins is touched.
+#[tactic(auto, using(crate::proofs::TouchedLaws::some_at, crate::proofs::TouchedLaws::some_none, crate::proofs::TouchedLaws::some_more))]
 fn some_pin_touched(
     netlist: &[u8],
     circuit: Circuit,
@@ -92,6 +94,7 @@ fn untouched_value(
 }
 
 // What a node makes of its untouched pins.
+#[tactic(auto, using(simulator::proofs::PinLaws::function_none, simulator::proofs::PinLaws::function_more), unfolding(gates::specs::Kind::gate))]
 fn untouched_gate(
     netlist: &[u8],
     circuit: Circuit,
@@ -115,6 +118,7 @@ fn untouched_gate(
 }
 
 // A node with a touched pin is touched unless its untouched pins settle its value.
+#[tactic(auto, using(crate::proofs::TouchedLaws::gate_untouched, crate::proofs::TouchedLaws::touched_unknown), unfolding(netlist::specs::Netlist::net_of))]
 fn gate_touched(
     netlist: &[u8],
     circuit: Circuit,
@@ -137,6 +141,7 @@ fn gate_touched(
 
 // Whether a node is touched, where its own place holds what its flip-flop latched, and the places below it
 // hold what is touched in this frame.
+#[tactic(auto, using(crate::proofs::TouchedLaws::touched_flip_flop), unfolding(netlist::specs::Netlist::net_of))]
 fn node_touched(netlist: &[u8], circuit: Circuit, values: &[u8], touched: &[u8], node: u16) -> u8
     ensures { result ≡ node_touched (net_of netlist.now) (lines_in circuit) (at values.now) (at touched.now) (at (take node touched.now)) node }
 {
@@ -157,6 +162,7 @@ fn node_touched(netlist: &[u8], circuit: Circuit, values: &[u8], touched: &[u8],
 }
 
 // Puts into each node's place whether it is touched, by rising node number.
+#[tactic(auto, unfolding(crate::specs::Trace::touched_list))]
 fn touch_nodes(netlist: &[u8], n: u16, circuit: Circuit, values: &[u8], touched: &mut [u8])
     requires n_value { n ≡ (net_of netlist.now).size }
     requires n_in_bounds { n ≤ length touched.old }
@@ -171,6 +177,7 @@ fn touch_nodes(netlist: &[u8], n: u16, circuit: Circuit, values: &[u8], touched:
 }
 
 // Whether a flip-flop is touched in the next frame: its pin is in this one. No other node is touched so.
+#[tactic(auto, using(crate::proofs::TouchedLaws::not_latched), unfolding(netlist::specs::Netlist::net_of))]
 fn latched_touched(
     netlist: &[u8],
     n: u16,
@@ -206,6 +213,7 @@ fn move_down(n: u16, touched: &mut [u8])
 
 // Puts what of the flip-flops is touched in the next frame into the first n bytes. It is worked out in
 // the second n bytes, since a flip-flop's source may be a flip-flop.
+#[tactic(auto, using(values::proofs::ListLaws::Filled, values::proofs::ListLaws::filled_more, values::proofs::ListLaws::filled_table), unfolding(crate::specs::Trace::latched_touched_list))]
 fn latch_touched(netlist: &[u8], n: u16, circuit: Circuit, values: &[u8], touched: &mut [u8])
     requires n_value { n ≡ (net_of netlist.now).size }
     requires n_in_bounds { n + n ≤ length touched.old }
@@ -221,12 +229,14 @@ fn latch_touched(netlist: &[u8], n: u16, circuit: Circuit, values: &[u8], touche
 }
 
 // Whether a node is no output, or an output that is not touched.
+#[tactic(auto, unfolding(netlist::specs::Netlist::net_of))]
 fn output_untouched(netlist: &[u8], touched: &[u8], node: u16) -> bool
     ensures { result ≡ output_untouched (net_of netlist.now) touched.now node }
 {
     netlist::kind_of(netlist, node) != OUTPUT || values::byte_at(touched, node as usize) == 0
 }
 
+#[tactic(auto, using(crate::proofs::TouchedLaws::output_read, values::proofs::ListLaws::every_more, values::proofs::ListLaws::every_fails), unfolding(values::specs::Lists::every))]
 fn outputs_untouched(netlist: &[u8], n: u16, touched: &[u8]) -> bool
     ensures { result ≡ every (output_untouched (net_of netlist.now) (take n touched.now)) n }
 {
@@ -241,6 +251,7 @@ fn outputs_untouched(netlist: &[u8], n: u16, touched: &[u8]) -> bool
 }
 
 // Whether no flip-flop's pin is touched.
+#[tactic(auto, using(crate::proofs::TraceAgreement::latched_law, values::proofs::ListLaws::every_more, values::proofs::ListLaws::every_fails), unfolding(values::specs::Lists::every))]
 fn pins_untouched(netlist: &[u8], n: u16, circuit: Circuit, values: &[u8], touched: &[u8]) -> bool
     requires { n ≡ (net_of netlist.now).size }
     ensures { result ≡ every (latched_untouched (latched_touched_list (net_of netlist.now) (lines_in circuit) (at values.now) (at (take n touched.now)))) n }
@@ -309,6 +320,7 @@ fn pins_untouched_at(
 }
 
 // Whether the effect dies, where the first n bytes hold the flip-flops touched at frame c.
+#[tactic(auto, using(crate::proofs::TouchedLaws::dies_open), unfolding(circuit::specs::Fault::lines_in))]
 fn dies_from(
     netlist: &[u8],
     n: u16,
@@ -363,6 +375,7 @@ fn trace_window(
 // the end counts as known to be 0, which no caller may lean on: it says nothing of the circuit, and
 // a window has a byte for each of its places. The last slice has to have a byte for each
 // node and each frame from c on; a shorter one stays as it is, and nothing is said to die.
+#[tactic(auto, unfolding(netlist::specs::Netlist::net_of))]
 pub fn effect_dies(
     netlist: &[u8],
     fault: Fault,

@@ -12,6 +12,7 @@ use gates::{FLIP_FLOP, OUTPUT};
 use values::{byte_at, copy, store};
 
 // What a clock step is given at a node's place: the latched value of a flip-flop, else what is there.
+#[tactic(auto, unfolding(simulator::specs::ClockLists::clock_start, netlist::specs::Netlist::net_of))]
 fn start_value(netlist: &[u8], latched: &[u8], values: &[u8], node: u16) -> u8
     ensures { result ≡ clock_start (net_of netlist.now) values.now latched.now node }
 {
@@ -23,6 +24,7 @@ fn start_value(netlist: &[u8], latched: &[u8], values: &[u8], node: u16) -> u8
 }
 
 // Puts the latched values of the first n nodes into the places of flip-flops.
+#[tactic(auto, using(values::proofs::ListLaws::rewritten_more), unfolding(values::specs::Inner::Rewriting::rewritten, crate::specs::Inner::Clocks::started))]
 fn start_clock(netlist: &[u8], n: u16, latched: &[u8], values: &mut [u8])
     ensures { values.new ≡ started (net_of netlist.now) latched.now n values.old }
 {
@@ -36,6 +38,7 @@ fn start_clock(netlist: &[u8], n: u16, latched: &[u8], values: &mut [u8])
 
 // A clock of a circuit. At the places of inputs the values are the clock's; afterwards they are the
 // seen values of all nodes, and what is latched is the next clock's.
+#[tactic(auto, unfolding(netlist::specs::Netlist::net_of))]
 pub fn run_clock(netlist: &[u8], circuit: Circuit, latched: &mut [u8], values: &mut [u8])
     ensures { holding values.new latched.new ≡ clocked (net_of netlist.now) (lines_in circuit) (holding values.old latched.old) }
 {
@@ -46,6 +49,7 @@ pub fn run_clock(netlist: &[u8], circuit: Circuit, latched: &mut [u8], values: &
 }
 
 // Whether a node is an output at which the two circuits differ.
+#[tactic(auto, unfolding(crate::specs::Inner::Clocks::output_differs, netlist::specs::Netlist::net_of))]
 fn output_differs(netlist: &[u8], faulty: &[u8], good: &[u8], node: u16) -> bool
     ensures { result ≡ output_differs (net_of netlist.now) faulty.now good.now node }
 {
@@ -54,6 +58,7 @@ fn output_differs(netlist: &[u8], faulty: &[u8], good: &[u8], node: u16) -> bool
 }
 
 // Whether any is.
+#[tactic(auto, using(values::proofs::ListLaws::any_more, values::proofs::ListLaws::any_none), unfolding(netlist::specs::Netlist::net_of))]
 fn outputs_differ(netlist: &[u8], faulty: &[u8], good: &[u8]) -> bool
     ensures { result ≡ any (output_differs (net_of netlist.now) faulty.now good.now) (net_of netlist.now).size }
 {
@@ -70,6 +75,7 @@ fn outputs_differ(netlist: &[u8], faulty: &[u8], good: &[u8]) -> bool
 
 // Both circuits take a clock with the inputs that stand in the first slice: the faulty one in the
 // first two slices, the good one in the others. Says whether an output differs.
+#[tactic(auto, using(crate::proofs::WitnessLaws::both_by), unfolding(circuit::specs::Fault::lines_in))]
 pub fn step_both(
     netlist: &[u8],
     fault: Fault,

@@ -1,4 +1,4 @@
--- The two parts of a certificate's head, as they are written: `headBytes` is the one and then the other.
+-- The two parts of a certificate's head, as they are written: `head_bytes` is the one and then the other.
 use Rattle.std.specs.Prelude.{List, [], ◌++◌, ◌∷◌, ◌+◌, ℕ}
 use Rattle.values.specs.Lists.{bytes₂, bytes₄}
 use Rattle.circuit.specs.Fault.{site_byte}

@@ -14,17 +14,6 @@ use Rattle.simulator.specs.Clock.{pin_values, seen_by, latched_by, place_fits, s
 use Rattle.simulator.specs.Inner.Places.{settled, latched_into}
 use Rattle.simulator.proofs.clock.function_of_few.Goals as goal
 
--- The pins are joined from the last to the first: the loop's invariant says that the value is the gate's function of the pins from `pin`
--- on. It begins with no pin (`joined-none`), and each turn joins the pin in front (`joined-behind`). At the end all pins are joined.
-use Rattle.values.specs.Lists.{at}
-use Rattle.circuit.specs.Fault.{lines_in}
-use Rattle.simulator.proofs.PinLaws.{JoinedFrom, joined_behind, joined-none}
-use mathlib.Core.Path.{◌≡◌}
-use native.Mathlib.Omega.{arith}
-use borrow.Author.Rules.{rules}
-use Rattle.simulator.proofs.clock.function_of_few.Statement.{statement}
-use Rattle.simulator.proofs.clock.function_of_few.Tie as tie
-
 -- src/clock.rt:103:5
 pub loop-pin-init : goal.loop-pin-init
 loop-pin-init c =

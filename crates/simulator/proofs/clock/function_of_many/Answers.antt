@@ -15,17 +15,6 @@ use Rattle.simulator.specs.Clock.{pin_values, seen_by, latched_by, place_fits, s
 use Rattle.simulator.specs.Inner.Places.{settled, latched_into}
 use Rattle.simulator.proofs.clock.function_of_many.Goals as goal
 
--- As for few pins (`function_of_few`); where the loop ends at a value that stays, the pins in front leave it as it is (`joined-all`).
-use Rattle.values.specs.Lists.{at}
-use Rattle.circuit.specs.Fault.{lines_in}
-use Rattle.simulator.proofs.PinLaws.{JoinedFrom, joined-all, joined_behind, joined-none}
-use mathlib.Core.Path.{◌≡◌}
-use native.Mathlib.Omega.{arith}
-use borrow.Author.Rules.{rules}
-use borrow.Author.Tests.{not-false}
-use Rattle.simulator.proofs.clock.function_of_many.Statement.{statement}
-use Rattle.simulator.proofs.clock.function_of_many.Tie as tie
-
 -- src/clock.rt:141:5
 pub loop-pin-init : goal.loop-pin-init
 loop-pin-init c =
@@ -39,4 +28,4 @@ returns-else-not-value_stays c =
     let i = c.loop-pin in
     let a = c.args in
     joined-all a.netlist.now (lines_in a.circuit) (at a.seen.now) a.node a.assumed a.assumption a.gate i.pin i.value i.invariant
-    (c.Value-stays.ensures (c.if-not-value_stays.false))
+    (c.value_stays.ensures c.if-not-value_stays.false)

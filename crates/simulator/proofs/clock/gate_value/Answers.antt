@@ -26,6 +26,5 @@ pub returns : goal.returns
 returns c = let a = c.args in
     let s = a.netlist.now in
     let vs = pin_values (net_of s) (lines_in a.circuit) (at a.seen.now) a.node in
-    let k = c.shared-slice-known.given in
-    let h : length vs ≤ 65535 = omega (arith, length-pin_values s (lines_in a.circuit) (at a.seen.now) a.node, k (7 + 5 * a.node), k (7 + 5 * a.node + 1)) in
+    let h : length vs ≤ 65535 = omega (arith, length-pin_values s (lines_in a.circuit) (at a.seen.now) a.node, c.type_inv.netlist (7 + 5 * a.node), c.type_inv.netlist (7 + 5 * a.node + 1)) in
     c.gate_assuming.ensures ∙ ap (λ (us : List ℕ). gate (kind_of s a.node) us) (set_out vs 65535 0 h)

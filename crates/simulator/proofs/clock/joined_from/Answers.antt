@@ -16,19 +16,6 @@ use Rattle.simulator.specs.Clock.{pin_values, seen_by, latched_by, place_fits, s
 use Rattle.simulator.specs.Inner.Places.{settled, latched_into}
 use Rattle.simulator.proofs.clock.joined_from.Goals as goal
 
--- The pin is below the node's pin count, so it reads what it is taken to read (`assumed-at`), and joins in front of the pins behind it
--- (`function-front`).
-use lib.ListN.{length}
-use Rattle.netlist.specs.Netlist.{length_of}
-use Rattle.values.specs.Lists.{at}
-use Rattle.circuit.specs.Fault.{lines_in}
-use Rattle.simulator.proofs.PinLaws.{assumed_pins, length_assumed, assumed_at, function_front}
-use mathlib.Core.Path.{◌≡◌}
-use native.Mathlib.Omega.{arith}
-use borrow.Author.Rules.{rules}
-use Rattle.simulator.proofs.clock.joined_from.Statement.{statement}
-use Rattle.simulator.proofs.clock.joined_from.Tie as tie
-
 -- src/clock.rt:62:1
 pub returns : goal.returns
 returns c =
@@ -36,6 +23,6 @@ returns c =
     let bs = a.netlist.now in
     let vs = assumed_pins bs (lines_in a.circuit) (at a.seen.now) a.node a.assumed a.assumption in
     let count : length vs ≡ length_of bs a.node = length_assumed bs (lines_in a.circuit) (at a.seen.now) a.node a.assumed a.assumption in
-    let reads = assumed_at bs (lines_in a.circuit) (at a.seen.now) a.node a.assumed a.assumption a.pin c.requires.1.0 in
-    rw (c.join_of.ensures, c.assumed_value-read.ensures, ← reads, c.requires.1.1)
-    (function_front a.gate vs a.pin (omega (arith, count, c.requires.1.0)))
+    let reads = assumed_at bs (lines_in a.circuit) (at a.seen.now) a.node a.assumed a.assumption a.pin c.requires.pin_in_bounds in
+    rw (c.join_of.ensures, c.assumed_value-read.ensures, ← reads, c.requires.value_value)
+    (function_front a.gate vs a.pin (omega (arith, count, c.requires.pin_in_bounds)))

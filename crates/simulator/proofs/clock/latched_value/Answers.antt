@@ -1,5 +1,6 @@
+use Rattle.std.proofs.Math.Nat.{le_refl}
 use native.Mathlib.Omega.{arith}
-use mathlib.Core.Path.{◌≡◌, sym}
+use mathlib.Core.Path.{◌∙◌, ◌≡◌, sym}
 use Prim.Native.Nat.{◌<◌, ◌≤◌}
 use lib.ListN.{get_or-eq_default}
 use borrow.Author.Tests.{ne_eqb}
@@ -19,19 +20,22 @@ use Rattle.simulator.specs.Clock.{pin_values, seen_by, latched_by, place_fits, s
 use Rattle.simulator.specs.Inner.Places.{settled, latched_into}
 use Rattle.simulator.proofs.clock.latched_value.Goals as goal
 
--- src/clock.rt:217:9
 pub returns-then-length_of-eq0 : goal.returns-then-length_of-eq0
 unfolding latched_by net_of
-returns-then-length_of-eq0 c = rw (← c.kind_of.ensures, ne_eqb _ _ c.if-kind_of-ne-FLIP_FLOP.true)
+returns-then-length_of-eq0 c =
+    let a = c.args in
+    let s = a.netlist.now in
+    let l = lines_in a.circuit in
+    let v = at a.seen.now in
+    let k : kind_of s a.node ≡ 2 = sym c.kind_of.ensures ∙ c.if-kind_of-ne-FLIP_FLOP.false in
+    let h : length_of s a.node ≤ 0 = rw (← c.length_of.ensures, c.if-length_of-eq0.true) (le_refl 0) in
+    rw k (sym (get_or-eq_default (pin_values (net_of s) l v a.node) 0 (rw (length-pin_values s l v a.node) h)))
 
--- src/clock.rt:209:1
 pub returns : goal.returns
 unfolding latched_by net_of
 returns c =
     let a = c.args in
     let s = a.netlist.now in
-    let l = lines_in a.circuit in
-    let v = at a.seen.now in
-    let k : kind_of s a.node ≡ 2 = omega (arith, c.kind_of.ensures, c.if-kind_of-ne-FLIP_FLOP.false) in
-    let h : length_of s a.node ≤ 0 = omega (arith, c.length_of.ensures, c.if-length_of-eq0.true) in
-    rw k (sym (get_or-eq_default (pin_values (net_of s) l v a.node) 0 (rw (length-pin_values s l v a.node) h)))
+    let k : kind_of s a.node ≡ 2 = sym c.kind_of.ensures ∙ c.if-kind_of-ne-FLIP_FLOP.false in
+    let h : 0 < length_of s a.node = omega (arith, c.length_of.ensures, c.if-length_of-eq0.false) in
+    rw (k, c.pin_value.ensures) (sym (pin_values-at s (lines_in a.circuit) (at a.seen.now) a.node 0 h))

@@ -26,15 +26,20 @@ returns-then-stuck-lt-NOT_STUCK c =
 
 -- src/clock.rt:189:9
 pub returns-then-is_given : goal.returns-then-is_given
+unfolding net_of
 returns-then-is_given c =
-    let a = (start g).args in
+    let a = c.args in
     let v = at a.seen.now in
-    c.byte_at.ensures ∙ sym (seen_by-given (net g) (lines_in a.circuit) v v a.node (not_stuck g) (given_by g ∙ c.if-is_given.true))
+    let not_stuck = rw c.stuck_node-stuck.ensures at c.if-stuck-lt-NOT_STUCK.false in
+    let given : is_given (kind_of a.netlist.now a.node) ≡ true = rw (← c.kind_of.ensures) (sym c.is_given.ensures ∙ c.if-is_given.true) in
+    c.byte_at.ensures ∙ sym (seen_by-given (net_of a.netlist.now) (lines_in a.circuit) v v a.node not_stuck given)
 
 -- src/clock.rt:180:1
 pub returns : goal.returns
 unfolding net_of
 returns c =
-    let a = (start g).args in
+    let a = c.args in
     let v = at a.seen.now in
-    c.gate_value.ensures ∙ sym (seen_by-gate (net g) (lines_in a.circuit) v v a.node (not_stuck g) (given_by g ∙ c.if-is_given.false))
+    let not_stuck = rw c.stuck_node-stuck.ensures at c.if-stuck-lt-NOT_STUCK.false in
+    let given : is_given (kind_of a.netlist.now a.node) ≡ false = rw (← c.kind_of.ensures) (sym c.is_given.ensures ∙ c.if-is_given.false) in
+    c.gate_value.ensures ∙ sym (seen_by-gate (net_of a.netlist.now) (lines_in a.circuit) v v a.node not_stuck given)

@@ -17,11 +17,10 @@ use Rattle.simulator.proofs.clock.slices_fit.Goals as goal
 pub returns-else-second-n : goal.returns-else-second-n
 returns-else-second-n c =
     let a = c.args in
-    c.places-fit.ensures
-    ∙ slices_places (net_of a.netlist.now) a.first.now a.second.now a.n c.requires c.if-first-n.true c.if-second-n.true
+    slices-second (net_of a.netlist.now) a.first.now a.second.now a.n c.requires c.if-first-n.true c.if-second-n.false
 
 -- src/clock.rt:258:1
 pub returns-else-first-n : goal.returns-else-first-n
 returns-else-first-n c =
     let a = c.args in
-    slices-second (net_of a.netlist.now) a.first.now a.second.now a.n c.requires c.if-first-n.true c.if-first-n.false
+    slices-first (net_of a.netlist.now) a.first.now a.second.now a.n c.requires c.if-first-n.false

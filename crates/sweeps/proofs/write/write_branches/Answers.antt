@@ -1,0 +1,71 @@
+-- Both branches write their runs into parts of the certificate's slice: branch 0 behind the head (`first_run`), branch 1 behind branch
+-- 0 (`second_run`). With the head in front these bytes are the certificate of the definition (`certificate-written`). A branch has at
+-- most as many steps as the window has places, which are few (`few`): so there is room for both runs, and the counts fit their numbers.
+use Prim.Native.Nat.{ℕ, ◌+◌, ◌-◌, ◌*◌, ◌≤◌}
+use native.Mathlib.Omega.{arith}
+use mathlib.Core.List.{List}
+use mathlib.Core.Path.{◌≡◌, ◌∙◌, ap}
+use lib.ListN.{length}
+use lib.Seq.{length-sets, sets}
+use borrow.Rule.Slice.PartMut.{mid_of, put_mid}
+use Rattle.netlist.specs.Netlist.{most_nodes, net_of, pin_count, reading, sound}
+use Rattle.netlist.proofs.SoundLaws.{sound-size}
+use Rattle.values.proofs.SetsLaws.{sets_in_part}
+use Rattle.certificate.specs.Certificate.{head_length}
+use Rattle.certificate.specs.Written.{head_bytes, run_bytes, written}
+use Rattle.certificate.specs.declared.step.Step.{Step}
+use Rattle.knowledge.specs.Window.{most_frames}
+use Rattle.sweeps.specs.Splits.{branch_of, certificate_for, head_for}
+use Rattle.sweeps.proofs.PartLaws.{certificate-written}
+use Rattle.sweeps.proofs.StandsLaws.{window-few}
+use Rattle.sweeps.proofs.write.write_branches.Goals as goal
+
+-- a window of a sound netlist of n nodes has few places
+few : (bs : List ℕ) (n W : ℕ) → reading bs ≡ sound n (pin_count bs) → W ≤ most_frames → n * W ≤ most_nodes * most_frames
+few bs n W e h = rw (sound-size bs n (pin_count bs) e) (window-few bs n (pin_count bs) W e h)
+
+-- what the two branches leave in their parts of the slice; k says how many steps the code counts in branch 0
+module _ (l : List ℕ) (r₀ r₁ : List Step) (k : ℕ) (count : k ≡ length r₀) (room : head_length + (7 * length r₀ + 7 * length r₁) ≤ length l) where
+  first_run : (run : List ℕ) → run ≡ sets (mid_of head_length (length l - head_length) l) 0 (run_bytes r₀)
+      → put_mid head_length (length l - head_length) l run ≡ sets l head_length (run_bytes r₀)
+  first_run run e = ap (put_mid head_length (length l - head_length) l) e ∙ sets_in_part (run_bytes r₀) l head_length (omega (arith, room))
+
+  second_run : (first run : List ℕ) → first ≡ sets l head_length (run_bytes r₀)
+      → run ≡ sets (mid_of (head_length + 7 * k) (length first - (head_length + 7 * k)) first) 0 (run_bytes r₁)
+      → put_mid (head_length + 7 * k) (length first - (head_length + 7 * k)) first run ≡ sets (sets l head_length (run_bytes r₀)) (head_length + 7 * length r₀) (run_bytes r₁)
+  second_run first run f e =
+      let same = ap (λ (x : List ℕ). length x) f in
+      let m : head_length + 7 * k ≤ length first = omega (arith, same, length-sets l head_length (run_bytes r₀), room, count) in
+      ap (put_mid (head_length + 7 * k) (length first - (head_length + 7 * k)) first) e
+      ∙ sets_in_part (run_bytes r₁) first (head_length + 7 * k) m
+      ∙ (λ i. sets (f i) (head_length + 7 * count i) (run_bytes r₁))
+
+pub overflow_cast-zero : goal.overflow_cast-zero
+overflow_cast-zero c =
+    let a = c.args in
+    let q = c.requires in
+    omega (arith, few a.netlist.now a.n (a.split.c + a.f + 1) q.netlist_value.0 q.f_bound.0, c.work_branch-zero.ensures.steps_bound)
+
+pub overflow_cast-one : goal.overflow_cast-one
+overflow_cast-one c =
+    let a = c.args in
+    let q = c.requires in
+    omega (arith, few a.netlist.now a.n (a.split.c + a.f + 1) q.netlist_value.0 q.f_bound.0, c.work_branch-one.ensures.steps_bound)
+
+pub returns-clause-certificate_after : goal.returns-clause-certificate_after
+returns-clause-certificate_after c =
+    let a = c.args in
+    let zero = c.work_branch-zero in
+    let one = c.work_branch-one in
+    let l = a.certificate.now in
+    let net = net_of a.netlist.now in
+    let r₀ = (branch_of net a.fault a.f a.split 0).steps in
+    let r₁ = (branch_of net a.fault a.f a.split 1).steps in
+    let count₀ = zero.ensures.closed_value.1 in
+    let count₁ = one.ensures.closed_value.1 in
+    let room : head_length + (7 * length r₀ + 7 * length r₁) ≤ length l = omega (arith, c.requires.known_len.1, zero.ensures.steps_bound, one.ensures.steps_bound, count₀, count₁) in
+    let first = first_run l r₀ r₁ zero.result.steps count₀ room zero.new.run zero.ensures.closed_value.2 in
+    let second = second_run l r₀ r₁ zero.result.steps count₀ room _ one.new.run first one.ensures.closed_value.2 in
+    c.write_head.ensures
+    ∙ (λ i. sets (second i) 0 (head_bytes (c.head_for-head.ensures i) (7 * count₀ i) (7 * count₁ i)))
+    ∙ certificate-written net a.fault a.f a.split l room
