@@ -7,15 +7,16 @@ F ?= 0
 
 # Prints the report on NETLIST: the faults marked with c up to B, with F frames behind the fault frame.
 run: tools
-	@scripts/build check report
+	@scripts/build program report
 	@scripts/report "$(NETLIST)" "$(B)" "$(F)"
 
-# Proves every crate, tries every edit that the prover must refuse, and runs the Rust tests and the examples.
+# Proves every crate, tries every edit that the prover must refuse, and runs the Rust tests and the examples. What an earlier run on
+# this machine proved of the same files is not proved again; rt ci --anew proves all.
 # Prints what each part took, and last how many passed and failed.
 test: tools
 	@scripts/test
 
-# Proves every crate from nothing at revision BASE and at commit HEAD, in turn, and prints the processor seconds of each.
+# Proves every crate from nothing at revision BASE and at commit HEAD, at the same time, and prints the processor seconds of each.
 check-time: tools
 	@scripts/check-time "$(BASE)"
 
@@ -44,7 +45,7 @@ target/performance.dat:
 
 # Brings every source into the layout of its language.
 fmt: tools
-	rt fmt
+	@for crate in crates/*/; do (cd "$$crate" && rt fmt) || exit; done
 	cd tests && cargo fmt
 	cd bench && cargo fmt
 	cd judge && cargo fmt
@@ -55,4 +56,4 @@ tools:
 
 # Removes all that was built.
 clean:
-	rm -rf target tests/target bench/target judge/target
+	rm -rf target tests/target bench/target judge/target crates/*/out

@@ -19,7 +19,7 @@ fn link_library(package: &Path) {
     println!("cargo:rerun-if-changed={}", archive.display());
     assert!(
         archive.is_file(),
-        "{} is missing: build it with rt staticlib capi",
+        "{} is missing: build it with scripts/build staticlib capi",
         archive.display()
     );
     println!("cargo:rustc-link-search=native={}", directory.display());

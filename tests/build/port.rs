@@ -307,15 +307,17 @@ fn translate(krate: &Crate, sources: &Sources, file: &str) -> String {
     text
 }
 
-/// Whether a line is for the prover alone. Each of its contracts is on one
-/// line.
+/// Whether a line is for the prover alone. Each of its contracts, imports and
+/// hints is on one line.
 fn is_promise(line: &str, file: &str) -> bool {
     let line = line.trim();
-    let clause = line.starts_with("requires {") || line.starts_with("ensures {");
+    let clause = line.starts_with("requires ") || line.starts_with("ensures ");
     let names = line.starts_with("ghost use ");
+    let hint = line.starts_with("#[tactic(") || line.starts_with("#![tactic(");
     assert!(!clause || line.ends_with('}'), "{file}: {line}");
     assert!(!names || line.ends_with(';'), "{file}: {line}");
-    clause || names
+    assert!(!hint || line.ends_with(")]"), "{file}: {line}");
+    clause || names || hint
 }
 
 /// The module that a line names, if it does.
@@ -323,18 +325,10 @@ fn module_named(line: &str) -> Option<&str> {
     line.strip_prefix("mod ")?.strip_suffix(';')
 }
 
-/// A line as Rust: the crate is a module, and its types are copied where they
-/// are used, which needs no word in the sources.
+/// A line as Rust: the crate is a module.
 fn as_rust(path: &str, line: &str) -> String {
-    let words = line.trim_start_matches("pub(crate) ");
-    let words = words.trim_start_matches("pub ");
-    let copied = match words.starts_with("struct ") || words.starts_with("enum ") {
-        true => "#[derive(Clone, Copy)]\n",
-        false => "",
-    };
-    let line = match line.strip_prefix("use crate::") {
-        Some(item) => format!("use {path}::{item}"),
-        None => line.to_string(),
-    };
-    format!("{copied}{line}\n")
+    match line.strip_prefix("use crate::") {
+        Some(item) => format!("use {path}::{item}\n"),
+        None => format!("{line}\n"),
+    }
 }

@@ -13,13 +13,18 @@ pub fn text_of(path: &str) -> String {
     fs::read_to_string(top_folder().join(path)).unwrap_or_else(|why| panic!("{path}: {why}"))
 }
 
+/// The folder in which the toolchain keeps what it makes of a crate. It is no
+/// part of the repository.
+const MADE: &str = "out";
+
 /// The paths of all files below a folder, all from the top folder, in order.
 pub fn files_below(folder: &str) -> Vec<String> {
     let entries = fs::read_dir(top_folder().join(folder));
     let entries = entries.unwrap_or_else(|why| panic!("{folder}: {why}"));
     let mut paths: Vec<String> = entries
+        .map(|entry| entry.expect("the entry can be read"))
+        .filter(|entry| entry.file_name() != MADE)
         .flat_map(|entry| {
-            let entry = entry.expect("the entry can be read");
             let path = format!("{folder}/{}", entry.file_name().display());
             if entry.path().is_dir() {
                 files_below(&path)

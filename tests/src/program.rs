@@ -2,7 +2,7 @@
 
 use crate::files::top_folder;
 use std::io::{ErrorKind, Write};
-use std::process::{Command, Stdio};
+use std::process::{Child, Command, Output, Stdio};
 use std::thread;
 use std::time::Duration;
 
@@ -19,33 +19,51 @@ pub fn printed(input: &[u8]) -> String {
 /// What the program prints when its input comes in these pieces, one after the
 /// other.
 pub fn printed_for_pieces(pieces: &[&[u8]]) -> String {
-    print_to(Stdio::piped(), pieces)
-}
-
-/// What the program prints to this output when its input comes in these pieces,
-/// one after the other. To an output that is not piped here that is nothing.
-pub fn print_to(output: impl Into<Stdio>, pieces: &[&[u8]]) -> String {
-    let path = top_folder().join("target/bin/report");
-    assert!(
-        path.is_file(),
-        "{} is missing: build it with scripts/build check report",
-        path.display()
-    );
-    let mut program = Command::new(path)
-        .stdin(Stdio::piped())
-        .stdout(output)
-        .stderr(Stdio::piped())
-        .spawn()
-        .expect("the program starts");
-    let mut input = program.stdin.take().expect("the input is a pipe");
-    // Beside the program, since neither may wait for the other's pipe.
-    let output = thread::scope(|scope| {
-        scope.spawn(move || write_pieces(&mut input, pieces));
-        program.wait_with_output().expect("the program ends")
-    });
+    let output = print_to(Stdio::piped(), pieces);
     assert!(output.status.success(), "{}", output.status);
     assert_eq!(String::from_utf8_lossy(&output.stderr), "");
     String::from_utf8(output.stdout).expect("the report is text")
+}
+
+/// How the program ends that prints to this output when its input comes in these
+/// pieces, one after the other. Of an output that is not piped here nothing is
+/// among what it printed.
+pub fn print_to(output: impl Into<Stdio>, pieces: &[&[u8]]) -> Output {
+    let mut program = start(Stdio::piped(), output);
+    let mut input = program.stdin.take().expect("the input is a pipe");
+    // Beside the program, since neither may wait for the other's pipe.
+    thread::scope(|scope| {
+        scope.spawn(move || write_pieces(&mut input, pieces));
+        program.wait_with_output().expect("the program ends")
+    })
+}
+
+/// How the program ends that reads from this input.
+pub fn read_from(input: impl Into<Stdio>) -> Output {
+    let program = start(input, Stdio::piped());
+    program.wait_with_output().expect("the program ends")
+}
+
+/// Fails unless the program ended with an error of this kind, and said so.
+pub fn assert_failed(output: &Output, kind: ErrorKind) {
+    assert_eq!(output.status.code(), Some(1), "{}", output.status);
+    let said = String::from_utf8_lossy(&output.stderr);
+    assert!(said.contains(&format!("{kind:?}")), "{kind:?}: {said}");
+}
+
+fn start(input: impl Into<Stdio>, output: impl Into<Stdio>) -> Child {
+    let path = top_folder().join("target/bin/report");
+    assert!(
+        path.is_file(),
+        "{} is missing: build it with scripts/build program report",
+        path.display()
+    );
+    Command::new(path)
+        .stdin(input)
+        .stdout(output)
+        .stderr(Stdio::piped())
+        .spawn()
+        .expect("the program starts")
 }
 
 fn write_pieces(input: &mut impl Write, pieces: &[&[u8]]) {

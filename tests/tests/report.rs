@@ -2,15 +2,18 @@
 
 use leverpeach_tests::cases::run;
 use leverpeach_tests::circuits::{damaged, raw, small, structured, worked, Draft};
-use leverpeach_tests::files::example;
+use leverpeach_tests::files::{example, top_folder};
 use leverpeach_tests::model::netlist::{MOST_NODES, MOST_PINS_IN_ALL};
 use leverpeach_tests::model::{self, kind};
-use leverpeach_tests::program::{input, print_to, printed, printed_for_pieces};
+use leverpeach_tests::program::{
+    assert_failed, input, print_to, printed, printed_for_pieces, read_from,
+};
 use leverpeach_tests::random::Random;
 use std::fs::{File, OpenOptions};
 use std::io::{self, ErrorKind, PipeReader, Read, Write};
 use std::os::fd::AsRawFd;
 use std::os::unix::fs::OpenOptionsExt;
+use std::process::Output;
 
 /// Runs program and model on the input; gives back the text.
 fn compare(input: &[u8]) -> String {
@@ -225,42 +228,71 @@ fn pipe_with_room(room: usize) -> (PipeReader, File, usize) {
     (reader, file, filled - room)
 }
 
-/// What of the report on an AND of one input twice comes through such a pipe.
-fn report_through(room: usize) -> String {
+/// What of the report on an AND of one input twice comes through such a pipe,
+/// and how the program ends.
+fn report_through(room: usize) -> (String, Output) {
     let (mut reader, file, filled) = pipe_with_room(room);
-    print_to(file, &[&input(0, 0, &worked::AND_TWICE)]);
+    let ended = print_to(file, &[&input(0, 0, &worked::AND_TWICE)]);
     let mut bytes = Vec::new();
     reader.read_to_end(&mut bytes).expect("the pipe is read");
-    String::from_utf8(bytes.split_off(filled)).expect("the report is text")
+    let text = String::from_utf8(bytes.split_off(filled));
+    (text.expect("the report is text"), ended)
+}
+
+/// Fails unless this much comes through a pipe that takes too little, and the
+/// program says that it was too little.
+fn assert_stops(room: usize, expected: &str) {
+    let (text, ended) = report_through(room);
+    assert_eq!(text, expected);
+    assert_failed(&ended, ErrorKind::WouldBlock);
 }
 
 // The lines have 12 bytes each, the total has 8: it would fit where a line did
 // not, and then count lines that are not there.
 #[test]
 fn no_total_follows_a_first_line_that_did_not_fit() {
-    assert_eq!(report_through(10), "");
+    assert_stops(10, "");
 }
 
 #[test]
 fn no_total_follows_a_second_line_that_did_not_fit() {
-    assert_eq!(report_through(22), "1 0 1 0 0 0\n");
+    assert_stops(22, "1 0 1 0 0 0\n");
 }
 
 #[test]
 fn what_fits_is_printed() {
     let lines = "1 0 1 0 0 0\n1 1 1 0 0 0\n";
-    assert_eq!(report_through(31), lines);
-    assert_eq!(report_through(32), format!("{lines}2 of 12\n"));
+    assert_stops(31, lines);
+    let (text, ended) = report_through(32);
+    assert_eq!(text, format!("{lines}2 of 12\n"));
+    assert!(ended.status.success(), "{}", ended.status);
+    assert_eq!(String::from_utf8_lossy(&ended.stderr), "");
 }
 
 #[test]
 fn an_output_that_takes_nothing() {
-    // The program ends, with status 0 and not a word on standard error.
     let full = || File::options().write(true).open("/dev/full");
     for netlist in [&worked::AND_TWICE[..], &example("mix30"), &[]] {
         let output = full().expect("there is a full device");
-        print_to(output, &[&input(2, 1, netlist)]);
+        let ended = print_to(output, &[&input(2, 1, netlist)]);
+        assert_failed(&ended, ErrorKind::StorageFull);
     }
+}
+
+#[test]
+fn an_output_that_nobody_reads() {
+    let (reader, writer) = io::pipe().expect("there are pipes");
+    drop(reader);
+    let ended = print_to(writer, &[&input(0, 0, &worked::AND_TWICE)]);
+    assert_failed(&ended, ErrorKind::BrokenPipe);
+}
+
+#[test]
+fn an_input_that_cannot_be_read() {
+    let folder = File::open(top_folder()).expect("the folder can be opened");
+    let ended = read_from(folder);
+    assert_eq!(String::from_utf8_lossy(&ended.stdout), "");
+    assert_failed(&ended, ErrorKind::IsADirectory);
 }
 
 #[test]

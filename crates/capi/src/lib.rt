@@ -61,7 +61,7 @@ fn number_of_step(answer: Stepped) -> u64
 
 fn number_of_check(answer: Checked) -> u64
     ensures value { result ≡ check_number (checked_says answer) }
-    ensures by_index { (c : ℕ) → result ≡ 4294967296 + c → checked_says answer ≡ accepted c }
+    ensures means_accepted { (c : ℕ) → result ≡ 4294967296 + c → checked_says answer ≡ accepted c }
 {
     match answer {
         Checked::Accepted(c) => 4294967296 + c as u64,
@@ -71,8 +71,8 @@ fn number_of_check(answer: Checked) -> u64
 
 fn number_of_finding(answer: Finding) -> u64
     ensures value { result ≡ find_number (finding_says answer) }
-    ensures by_index { (c l : ℕ) → l < 4294967296 → result ≡ 4294967296 * (c + 1) + l → (k : ℕ) × (finding_says answer ≡ found c l k) }
-    ensures fact { result ≡ 0 → (finding_says answer ≡ nothing_found) ⊎ (finding_says answer ≡ refused 0) }
+    ensures means_found { (c l : ℕ) → l < 4294967296 → result ≡ 4294967296 * (c + 1) + l → (k : ℕ) × (finding_says answer ≡ found c l k) }
+    ensures means_none { result ≡ 0 → (finding_says answer ≡ nothing_found) ⊎ (finding_says answer ≡ refused 0) }
 {
     match answer {
         Finding::Found(c, length, _) => 4294967296 * (c as u64 + 1) + length as u64,
@@ -117,8 +117,8 @@ pub extern "C" fn leverpeach_check(
     first: &mut [u8],
     second: &mut [u8],
 ) -> u64
-    ensures second_after { numbered_outcome result first.new second.new ≡ numbered_by check_number (checking (checker_call netlist.now certificate.now first.old second.old)) }
-    ensures by_index { (c : ℕ) → result ≡ 4294967296 + c → Redundant netlist.now (fault_of certificate.now) c }
+    ensures outcome { numbered_outcome result first.new second.new ≡ numbered_by check_number (checking (checker_call netlist.now certificate.now first.old second.old)) }
+    ensures means_redundant { (c : ℕ) → result ≡ 4294967296 + c → Redundant netlist.now (fault_of certificate.now) c }
 {
     number_of_check(checker::check(netlist, certificate, first, second))
 }
@@ -139,9 +139,9 @@ pub extern "C" fn leverpeach_find(
     second: &mut [u8],
     certificate: &mut [u8],
 ) -> u64
-    ensures certificate_after { numbered_finding result first.new second.new certificate.new ≡ numbered_finder (finding (finder_call netlist.now (site_fault node site u) b f first.old second.old certificate.old)) }
-    ensures by_index { (c l : ℕ) → l < 4294967296 → result ≡ 4294967296 * (c + 1) + l → (k : ℕ) × IsMark netlist.now (site_fault node site u) b f c k (take l certificate.new) }
-    ensures none_closes { result ≡ 0 → NoneCloses netlist.now (site_fault node site u) b f }
+    ensures outcome { numbered_finding result first.new second.new certificate.new ≡ numbered_finder (finding (finder_call netlist.now (site_fault node site u) b f first.old second.old certificate.old)) }
+    ensures means_mark { (c l : ℕ) → l < 4294967296 → result ≡ 4294967296 * (c + 1) + l → (k : ℕ) × IsMark netlist.now (site_fault node site u) b f c k (take l certificate.new) }
+    ensures means_none_closes { result ≡ 0 → NoneCloses netlist.now (site_fault node site u) b f }
 {
     let fault = fault_of(node, site, u);
     number_of_finding(finder::find(netlist, fault, b, f, first, second, certificate))
