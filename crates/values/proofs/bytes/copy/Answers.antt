@@ -5,7 +5,8 @@ use native.Mathlib.Omega.{arith}
 use Rattle.values.proofs.bytes.copy.Goals as goal
 
 pub loop-index-preserved : goal.loop-index-preserved
-loop-index-preserved c = let l = c.loop-index in
+loop-index-preserved c =
+    let l = c.loop-index in
     let a = c.args in (
       omega arith,
       simp length-set l.invariant.1,
@@ -13,6 +14,7 @@ loop-index-preserved c = let l = c.loop-index in
     )
 
 pub returns : goal.returns
-returns c = let l = c.loop-index in
+returns c =
+    let l = c.loop-index in
     let a = c.args in
     l.invariant.2 ∙ copied a.from.now a.to.now l.index (omega (arith, c.smaller-end.ensures))

@@ -2,7 +2,6 @@ use lib.Seq.{sets}
 use lib.ListN.{length, take}
 use mathlib.Core.Path.{◌≡◌}
 use Prim.Native.Nat.{◌-◌, ◌≤◌}
-use Rattle.std.proofs.Common.{◌-◌, ◌≡◌, length, ◌≤◌}
 use Rattle.std.proofs.lemmas.List.Edits.{sets}
 use Rattle.values.proofs.bytes.copy.Given as goal
 

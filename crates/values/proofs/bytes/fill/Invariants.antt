@@ -2,7 +2,6 @@ use Prim.Native.Nat.{◌≤◌, ◌-◌}
 use mathlib.Core.Path.{◌≡◌}
 use mathlib.Core.List.{◌++◌}
 use lib.ListN.{length, replicate, drop}
-use Rattle.std.proofs.Common.{length, ◌-◌, ◌≡◌, drop, replicate, ◌≤◌}
 use Rattle.values.proofs.bytes.fill.Given as goal
 
 abbrev pub invariant-loop-place : goal.invariant-loop-place
