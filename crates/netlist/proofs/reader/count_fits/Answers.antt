@@ -1,6 +1,5 @@
 use borrow.Author.Tests.{le-leb, lt-leb}
 use Rattle.netlist.specs.Netlist.{count_fits}
-use Rattle.netlist.specs.Netlist.{count_fits}
 use Rattle.netlist.proofs.reader.count_fits.Goals as goal
 
 pub returns-then-rule-count : goal.returns-then-rule-count

@@ -6,9 +6,6 @@ use Rattle.netlist.specs.Netlist.{pair_joined, pair_start}
 use mathlib.Core.Bool.{false, true}
 use native.Mathlib.Omega.{arith}
 use Rattle.values.specs.Lists.{every}
-use Rattle.std.proofs.Common.{◌≡◌, true, false}
-use Rattle.values.specs.Lists.{every}
-use Rattle.netlist.specs.Netlist.{pair_start, pair_joined}
 use Rattle.netlist.proofs.reader.pairs_joined.Goals as goal
 
 pub loop-node-init : goal.loop-node-init

@@ -3,9 +3,6 @@ use Rattle.netlist.specs.Netlist.{pair_joined, pair_start}
 use Prim.Native.Nat.{◌≤◌, ◌-◌}
 use mathlib.Core.Bool.{true}
 use Rattle.values.specs.Lists.{every}
-use Rattle.std.proofs.Common.{◌-◌, ◌≡◌, ◌≤◌}
-use Rattle.values.specs.Lists.{every}
-use Rattle.netlist.specs.Netlist.{pair_start, pair_joined}
 use Rattle.netlist.proofs.reader.pairs_joined.Given as goal
 
 abbrev pub invariant-loop-node : goal.invariant-loop-node

@@ -1,6 +1,5 @@
 use borrow.Author.Tests.{le-leb, lt-leb, lt-ltb, le-ltb}
 use Rattle.netlist.specs.Netlist.{sizes_allowed}
-use Rattle.netlist.specs.Netlist.{sizes_allowed}
 use Rattle.netlist.proofs.reader.sizes_allowed.Goals as goal
 
 pub returns-then-n-le-MOST_NODES : goal.returns-then-n-le-MOST_NODES

@@ -1,6 +1,5 @@
 use borrow.Author.Tests.{lt-ltb, le-ltb}
 use Rattle.netlist.specs.Netlist.{source_allowed}
-use Rattle.netlist.specs.Netlist.{source_allowed}
 use Rattle.netlist.proofs.reader.source_allowed.Goals as goal
 
 pub returns-then-source-source_limit : goal.returns-then-source-source_limit

@@ -3,8 +3,6 @@ use mathlib.Core.Path.{refl, sym, ◌∙◌}
 use native.Mathlib.Omega.{arith}
 use Rattle.values.specs.Lists.{every}
 use Rattle.values.proofs.ListLaws.{every_more, every_fails, every-done}
-use Rattle.values.specs.Lists.{every}
-use Rattle.netlist.specs.Netlist.{source_allowed, sources_allowed}
 use Rattle.netlist.proofs.reader.sources_allowed.Goals as goal
 
 pub loop-pin-init : goal.loop-pin-init
@@ -21,12 +19,14 @@ returns-then-not-source_allowed c =
     (sym (every_fails (source_allowed a.netlist.now a.node) _ l.pin c.loop-pin-test.true fails))
 
 pub loop-pin-preserved : goal.loop-pin-preserved
-loop-pin-preserved c = let a = c.args in
+loop-pin-preserved c =
+    let a = c.args in
     let l = c.loop-pin in
     (omega arith, every_more (source_allowed a.netlist.now a.node) l.pin l.invariant.1 (sym c.source_allowed.ensures ∙ c.if-not-source_allowed.false))
 
 pub returns : goal.returns
 unfolding sources_allowed
-returns c = let a = c.args in
+returns c =
+    let a = c.args in
     let l = c.loop-pin in
     rw (← c.length_of-count.ensures) (every-done (source_allowed a.netlist.now a.node) l.pin _ l.invariant.1 l.invariant.0 c.loop-pin-test.false)

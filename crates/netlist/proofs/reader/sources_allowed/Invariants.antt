@@ -3,9 +3,6 @@ use Prim.Native.Nat.{◌≤◌, ◌-◌}
 use mathlib.Core.Bool.{true}
 use mathlib.Core.Path.{◌≡◌}
 use Rattle.values.specs.Lists.{every}
-use Rattle.std.proofs.Common.{◌-◌, ◌≡◌, ◌≤◌}
-use Rattle.values.specs.Lists.{every}
-use Rattle.netlist.specs.Netlist.{source_allowed}
 use Rattle.netlist.proofs.reader.sources_allowed.Given as goal
 
 abbrev pub invariant-loop-pin : goal.invariant-loop-pin
