@@ -1,7 +1,7 @@
 -- What the statement says of clock 0, and that redundancy from clock c on is redundancy from every later clock on.
 use mathlib.Core.Bool.{true}
 use mathlib.Core.List.{List, [], ◌∷◌}
-use mathlib.Core.Path.{◌≡◌, subst}
+use mathlib.Core.Path.{◌≡◌}
 use Prim.Native.Nat.{◌+◌, ◌<◌, suc, zero, ℕ}
 use native.Mathlib.Nat.{suc-add, zero-add}
 use native.Mathlib.Omega.{arith}
@@ -19,7 +19,7 @@ module _ (net : Net) (faulted : StuckLines) where
       → (t n : ℕ) → t < length xs → n < net.size → is_output (net.kind n) ≡ true → seen_at net faulted xs l t n ≡ seen_at net none_stuck xs l t n
   unfolding EqualOutputs
   from_start h xs l p hl t n b k o =
-      subst (λ (u : ℕ). seen_at net faulted xs l u n ≡ seen_at net none_stuck xs l t n) (zero-add t) (h xs l p hl t n (omega arith) k o)
+      cc (zero-add t, h xs l p hl t n (omega arith) k o)
 
   -- one clock later: the list's other clocks, from what the faulty circuit has latched at its first
   one_later : (c : ℕ) → EqualOutputs net faulted c → EqualOutputs net faulted (suc c)

@@ -1,4 +1,3 @@
-use mathlib.Core.Path.{◌∙◌}
 use borrow.Author.Tests.{lt-ltb}
 use Rattle.netlist.proofs.NetlistLaws.{pins-length}
 use Rattle.circuit.specs.Fault.{fault_exists}

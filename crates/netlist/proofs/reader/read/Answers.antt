@@ -3,7 +3,7 @@ use lib.Dec.{eqb, leb}
 use lib.ListN.{length}
 use mathlib.Core.Bool.{◌&&◌, Bool, false, true}
 use mathlib.Core.List.{List}
-use mathlib.Core.Path.{◌≡◌, ◌∙◌, refl, sym}
+use mathlib.Core.Path.{◌≡◌, ◌∙◌, refl}
 use Prim.Native.Nat.{◌*◌, ◌+◌, ℕ}
 use borrow.Author.Tests.{eq-eqb, le-leb, lt-leb, ne_eqb}
 use Rattle.netlist.proofs.NetlistLaws.{read-refused, read-sound}

@@ -1,22 +1,12 @@
-use borrow.Author.Tests.{not-true, not-false}
-use Rattle.netlist.specs.Netlist.{source_allowed, sources_allowed}
+use Rattle.netlist.specs.Netlist.{source_allowed}
 use Prim.Native.Nat.{◌≤◌, ◌-◌}
 use mathlib.Core.Bool.{true}
-use mathlib.Core.Path.{◌≡◌, refl, sym, ◌∙◌}
-use native.Mathlib.Omega.{arith}
-use borrow.Author.Rules.{rules}
+use mathlib.Core.Path.{◌≡◌}
 use Rattle.values.specs.Lists.{every}
-use Rattle.values.proofs.ListLaws.{every_more, every_fails, every-done}
-use Rattle.std.proofs.Common.{◌-◌, ◌≡◌, ◌&&◌, cond, eqb, ◌*◌, ◌+◌, ◌<◌, ℕ, ◌≤◌, length}
-use Rattle.gates.specs.Kind.{is_flip_flop}
-use Rattle.netlist.specs.Answer.{number_of}
-use Rattle.values.specs.Lists.{every, u16_at}
-use Rattle.netlist.specs.Netlist.{node_count, pin_count, kind_of, offset_of, length_of, source_of, pair_start, sizes_allowed, kind_known, pair_joined, count_fits, source_allowed, sources_allowed, reading, reading_says}
 use Rattle.netlist.proofs.reader.sources_allowed.Given as goal
 
 abbrev pub invariant-loop-pin : goal.invariant-loop-pin
 invariant-loop-pin l = (l.pin ≤ l.count) × (every (source_allowed l.netlist l.node) l.pin ≡ true)
 
--- proposed from the loop's first test
 abbrev pub decreases-loop-pin : goal.decreases-loop-pin
 decreases-loop-pin l = l.count - l.pin

@@ -3,21 +3,11 @@ use native.Mathlib.Omega.{arith}
 use mathlib.Core.Path.{◌∙◌, ◌≡◌, sym}
 use Prim.Native.Nat.{◌<◌, ◌≤◌}
 use lib.ListN.{get_or-eq_default}
-use borrow.Author.Tests.{ne_eqb}
 use Rattle.values.specs.Lists.{at}
 use Rattle.simulator.proofs.PinLaws.{length-pin_values, pin_values-at}
 use Rattle.simulator.specs.Clock.{latched_by, pin_values}
 use Rattle.netlist.specs.Netlist.{kind_of, length_of, net_of}
-use borrow.Author.Rules.{rules}
-use Rattle.std.proofs.Common.{rules, ◌≡◌, ◌*◌, ◌+◌, ◌<◌, suc, ℕ, eqb, drop, set, cond, true, ◌-◌, ◌≤◌, length, ◌/◌, ◌%◌, Bool, false, nat_lt, List, [], ◌∷◌, ◌++◌, slice_index_or, bit_and, bit_or, Fits, w8, w32, w64, Bor, MutBor}
-use Rattle.values.specs.Lists.{at, every}
-use Rattle.netlist.specs.Netlist.{kind_of, length_of, net_of, node_count, offset_of, source_of}
-use Rattle.gates.specs.Kind.{function_of, gate, join_of}
-use Rattle.gates.specs.Value.{stuck_or}
 use Rattle.circuit.specs.Fault.{lines_in}
-use Rattle.netlist.specs.Answer.{outcome}
-use Rattle.simulator.specs.Clock.{pin_values, seen_by, latched_by, place_fits, slices_fit, simulator_call, simulation, stepped_says}
-use Rattle.simulator.specs.Inner.Places.{settled, latched_into}
 use Rattle.simulator.proofs.clock.latched_value.Goals as goal
 
 pub returns-then-length_of-eq0 : goal.returns-then-length_of-eq0

@@ -2,9 +2,8 @@
 -- A netlist that is not sound is turned back with the reader's number (`simulation-unsound`). Where a test fails, it is the first that
 -- does (`simulation-refused`). At the end both have passed (`simulation-done`), and `step-halves` makes one clock step of settling and
 -- latching.
-use mathlib.Core.Bool.{false, true}
+use mathlib.Core.Bool.{true}
 use mathlib.Core.Path.{◌∙◌, ◌≡◌, refl, sym}
-use Rattle.circuit.specs.Fault.{circuit_exists}
 use Rattle.netlist.proofs.RefusalLaws.{fails_here, fails_later}
 use Rattle.netlist.specs.Netlist.{net_of}
 use Rattle.netlist.proofs.SoundLaws.{sound-size}
