@@ -1,12 +1,7 @@
-use Prim.Native.Nat.{ℕ, ◌%◌, ◌-◌, ◌<◌, ◌≤◌}
-use native.Mathlib.Omega.{arith}
-use mathlib.Core.Path.{◌≡◌, refl}
-use lib.ListN.{length, length-set}
-use borrow.Author.Rules.{rules}
-use Rattle.search.proofs.SmallLaws.{small_everywhere, small_more}
-use Rattle.std.proofs.Common.{length, ◌-◌, ℕ, ◌*◌, ◌+◌, ◌<◌, ◌≤◌, ◌≡◌}
+use Prim.Native.Nat.{ℕ, ◌-◌, ◌<◌, ◌≤◌}
+use mathlib.Core.Path.{◌≡◌}
+use lib.ListN.{length}
 use Rattle.values.specs.Lists.{at}
-use Rattle.knowledge.specs.Window.{most_frames}
 use Rattle.search.proofs.guess.keep_small.Given as goal
 
 abbrev pub invariant-loop-place : goal.invariant-loop-place

@@ -1,7 +1,4 @@
 use Prim.Native.Nat.{◌-◌, ◌≤◌}
-use native.Mathlib.Omega.{arith}
-use borrow.Author.Rules.{rules}
-use Rattle.std.proofs.Common.{◌-◌, ◌+◌, ◌≤◌, length, ◌≡◌, ℕ, ◌*◌, ◌<◌}
 use Rattle.search.proofs.notes.some_guess.Given as goal
 
 abbrev pub invariant-loop-place : goal.invariant-loop-place

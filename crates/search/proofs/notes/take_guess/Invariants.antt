@@ -1,8 +1,6 @@
 use Prim.Native.Nat.{◌-◌}
-use mathlib.Core.Path.{◌≡◌, refl}
+use mathlib.Core.Path.{◌≡◌}
 use lib.ListN.{length}
-use borrow.Author.Rules.{rules}
-use Rattle.std.proofs.Common.{length, ◌-◌, ◌+◌, ◌≤◌, ◌≡◌, ℕ, ◌*◌, ◌<◌}
 use Rattle.search.proofs.notes.take_guess.Given as goal
 
 abbrev pub invariant-loop-place : goal.invariant-loop-place

@@ -1,10 +1,6 @@
-use native.Mathlib.Omega.{arith}
-use borrow.Author.Rules.{rules}
-use lib.ListN.{length, length-set}
-use mathlib.Core.Path.{◌≡◌, refl}
+use lib.ListN.{length}
+use mathlib.Core.Path.{◌≡◌}
 use Prim.Native.Nat.{ℕ, ◌≤◌, ◌<◌, ◌-◌}
-use Rattle.search.proofs.SmallLaws.{small_more}
-use Rattle.std.proofs.Common.{length, ◌-◌, ℕ, ◌<◌, ◌≡◌, ◌+◌, ◌*◌, ◌≤◌}
 use Rattle.values.specs.Lists.{at}
 use Rattle.search.proofs.random.draw.Given as goal
 
