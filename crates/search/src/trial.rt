@@ -121,6 +121,7 @@ fn is_seen(
 }
 
 // Whether a trial shows the fault at or after clock c. The first n bytes of both work slices are used.
+#[tactic(auto, using(netlist::proofs::SoundLaws::facts))]
 pub(crate) fn rules_out(
     netlist: &[u8],
     n: u16,

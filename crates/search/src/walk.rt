@@ -27,6 +27,7 @@ const NOTED_LENGTH: usize = MOST_FRAMES as usize * NODES_AT_MOST;
 
 // The first c whose window is searched: above b where the fault is seen at or after clock b, since no
 // split closes then for any c up to b.
+#[tactic(auto, using(netlist::proofs::SoundLaws::facts, crate::proofs::RuledOutLaws::windows_ruled_out), unfolding(crate::specs::FirstSplit::try_windows, crate::specs::FirstSplit::first_some))]
 fn first_window(
     netlist: &[u8],
     n: u16,

@@ -1,0 +1,12 @@
+use lib.ListN.{length}
+use mathlib.Core.Path.{◌≡◌}
+use Prim.Native.Nat.{ℕ, ◌≤◌, ◌<◌, ◌-◌}
+use Rattle.values.specs.Lists.{at}
+use Rattle.search.proofs.random.draw.Given as goal
+
+abbrev pub invariant-loop-place : goal.invariant-loop-place
+invariant-loop-place l = (l.place ≤ length l.initial.values) ×
+    (length l.values ≡ length l.initial.values) × ((k : ℕ) → k < l.place → at l.values k < 2)
+
+abbrev pub decreases-loop-place : goal.decreases-loop-place
+decreases-loop-place l = length l.initial.values - l.place
