@@ -72,18 +72,19 @@ fn architecture_and_performance_name_what_exists() {
 
 /// Definitions and a proof, as the kit's are written.
 const LAWS: &str = "\
-use lib.Dec.{imported}
+use Rattle.std.specs.Prelude.{◌≡◌, ℕ, List}
+use Rattle.kit.specs.Own.{imported}
 
 -- spoken : of
 pub record Net (n : ℕ) : Type 0 where
   pub size : ℕ
 
 pub data Answer : Type 0 where
-  no-answer : Answer
+  no_answer : Answer
 
 module _ (bs : List ℕ) where
-  abbrev pub nodeCount : ℕ
-  nodeCount = imported bs
+  abbrev pub node_count : ℕ
+  node_count = imported bs
 
 unfoldable hidden₂ : ℕ
 hidden₂ = used 3
@@ -98,10 +99,15 @@ a-law x = let bound : ℕ = x in go x
 
 /// Code, as the kit's is written.
 const CODE: &str = "\
+// spoken fn of
+#![tactic(auto)]
+
+ghost use Rattle.kit.specs.Laws.{imported};
+
 use values::imported;
 mod inner;
 
-// spoken fn of
+#[derive(Clone, Copy)]
 pub enum Reading {
     Sound(u16, u16),
     Refused,
@@ -115,14 +121,17 @@ pub struct Rule<'a> {
 const LENGTH: usize = 7;
 
 impl Rule {
+    #[tactic(auto, using(crate::proofs::Laws::used))]
     pub(crate) fn next(self) -> Rule
-        requires { ⌜ used ⌝ }
+        requires { used }
+        ensures value { result ≡ used }
     {
         let bound: u8 = LENGTH;
         Rule { least: bound, built: 0 }
     }
 }
 
+#[unsafe(no_mangle)]
 pub extern \"C\" fn exported<'a>(given: u8) -> u8 {}
 ";
 
@@ -180,13 +189,25 @@ fn names_are_looked_for_where_they_are_defined() {
             "Net",
             "size",
             "Answer",
-            "no-answer",
-            "nodeCount",
+            "no_answer",
+            "node_count",
             "hidden₂",
             "a-law",
         ],
         &[
-            "imported", "spoken", "used", "bound", "go", "x", "n", "absent", "_", "node",
+            "imported",
+            "spoken",
+            "used",
+            "bound",
+            "go",
+            "x",
+            "n",
+            "absent",
+            "_",
+            "node",
+            "bs",
+            "◌≡◌",
+            "ℕ",
         ],
     );
     assert_names(
@@ -196,7 +217,20 @@ fn names_are_looked_for_where_they_are_defined() {
             "exported",
         ],
         &[
-            "imported", "spoken", "used", "bound", "built", "given", "absent",
+            "imported",
+            "spoken",
+            "used",
+            "bound",
+            "built",
+            "given",
+            "absent",
+            "tactic",
+            "derive",
+            "Clone",
+            "Laws",
+            "value",
+            "result",
+            "no_mangle",
         ],
     );
     assert_names("kit.h", &["leverpeach_read"], &["netlist", "spoken"]);
@@ -205,7 +239,7 @@ fn names_are_looked_for_where_they_are_defined() {
 #[test]
 fn a_right_trace_has_no_complaints() {
     for cell in [
-        "`specs/Laws.antt`: `nodeCount`, `Net`; `src/code.rt`: `next`",
+        "`specs/Laws.antt`: `node_count`, `Net`; `src/code.rt`: `next`",
         "`specs/Laws.antt`, `specs/`; also `notes.txt`",
         "plain words",
     ] {
@@ -232,8 +266,8 @@ fn a_wrong_trace_is_complained_of() {
             "`Net`: no names are looked up in `specs/`",
         ),
         (
-            "`nodeCount`",
-            "`nodeCount` is neither a path nor one of a path's names",
+            "`node_count`",
+            "`node_count` is neither a path nor one of a path's names",
         ),
         (
             "`specs/Laws.antt`, `Net`",
@@ -279,7 +313,7 @@ fn a_right_reading_has_no_complaints() {
     let paragraph = "Then `specs/Laws.antt`: `Net`,\n`size`.\n- `make run`.";
     for (row, names) in [
         ("`notes.txt` | 2", 2),
-        ("`specs/Laws.antt`: `Net`, `size` | 22", 4),
+        ("`specs/Laws.antt`: `Net`, `size` | 23", 4),
     ] {
         let findings = reading_with(paragraph, row);
         assert_clean("the sample", &findings);
