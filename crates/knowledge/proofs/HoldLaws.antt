@@ -255,7 +255,7 @@ module _ (net : Net) where
         let e : (lines_of f).node f.node ≡ stuck_or ((lines_of f).node f.node) (get_or l (t * N + f.node) 2) = held-value f hu ∙ ap (stuck_or ((lines_of f).node f.node)) (sym (get_or-replicate (N * W) (t * N + f.node) 2 2 (place-within N W f.node t hf g))) in
         holds_frame (lines_of f) W t f.node l (hold_frames N f t l) hf g (held-length N f t l ∙ length-replicate (N * W) 2) e (none-held f) (holds_frames t (omega arith))
 
-    -- `beginIn` is `begin`: the branch closes at the same splits, and the bytes hold what is known in it
+    -- `begin_in` is `begin`: the branch closes at the same splits, and the bytes hold what is known in it
     module _ (c n t v : ℕ) (hc : c ≤ W) (hn : n < net.size) (ht : t < W) (hv : v < 2) where
       begins : ((begin_in net.size f c (net.size * W) n t v).closed ≡ (begin net (present_below c (lines_of f)) W n t v).closed)
           × Holds net (present_below c (lines_of f)) W (begin net (present_below c (lines_of f)) W n t v).values (begin_in net.size f c (net.size * W) n t v).bytes

@@ -24,7 +24,7 @@ MoreAt net v w = (n : ℕ) → n < net.size → Refines (v n) (w n)
 abbrev pub More : Net → (ℕ → ℕ → ℕ) → (ℕ → ℕ → ℕ) → Type 0
 More net kn kn' = (n t : ℕ) → n < net.size → Refines (kn n t) (kn' n t)
 
--- the choice that pinConclusion makes, where neither test loses what it has, and not both have it
+-- the choice that pin_conclusion makes, where neither test loses what it has, and not both have it
 chosen_mono : (u a b a' b' : Bool) (x y : ℕ) → (a ≡ true → a' ≡ true) → (b ≡ true → b' ≡ true) → (a' ≡ true → b' ≡ true → ⊥)
     → Refines (elim (u && a) [ true ↦ x | false ↦ elim (u && b) [ true ↦ y | false ↦ 2 ] ]) (elim (u && a') [ true ↦ x | false ↦ elim (u && b') [ true ↦ y | false ↦ 2 ] ])
 chosen_mono false a b a' b' x y f g h = λ k. refl

@@ -1,5 +1,5 @@
 -- The relation of a node at a frame is what 01 says under "Knowledge", sentence by sentence, kind by kind, for every pin count together.
--- What a node's pins read is pinValues net s v n, from the stuck lines s of a frame and what is known there (v). A value from 2 on is
+-- What a node's pins read is pin_values net s v n, from the stuck lines s of a frame and what is known there (v). A value from 2 on is
 -- unknown, so "≡ 2" says that nothing is concluded. Pin j is stuck where s.pin n j < 2, and not where 2 ≤ s.pin n j.
 -- Pins go by their numbers: two with one source are separate.
 use mathlib.Core.Bool.{Bool, ◌&&◌, ◌||◌, and-false, cond, false, not, true, true≢false}
@@ -25,7 +25,7 @@ use Rattle.values.specs.Lists.{at}
 use Rattle.netlist.specs.Netlist.{Net}
 use Rattle.gates.specs.Value.{differ, is_unknown, neg}
 
--- the choice that pinConclusion makes: where setting the pin to w, or else to its opposite, makes the output another
+-- the choice that pin_conclusion makes: where setting the pin to w, or else to its opposite, makes the output another
 abbrev picked : Bool → Bool → ℕ → ℕ
 picked first second w = elim first [ true ↦ neg w | false ↦ elim second [ true ↦ w | false ↦ 2 ] ]
 
@@ -261,7 +261,7 @@ module _ (net : Net) (s : StuckLines) (v : ℕ → ℕ) (n : ℕ) {e : ℕ} (h :
         → pin_conclusion net s v n o j ≡ third e o (at (pin_values net s v n) (other_pin j))
     output_gives_third o g m = tried o ∙ parity_pin h o j l g (pin_values net s v n) (pin-count net s v n ∙ two) m
 
-    -- and otherwise nothing is concluded of the pin (for an unknown output: unknown-output)
+    -- and otherwise nothing is concluded of the pin (for an unknown output: unknown_output)
     pub third-pin_open : (o : ℕ) → 2 ≤ at (pin_values net s v n) (other_pin j) → pin_conclusion net s v n o j ≡ 2
     third-pin_open o m = tried o ∙ parity_pin_open h o j l (pin_values net s v n) (pin-count net s v n ∙ two) m
 
@@ -285,7 +285,7 @@ module _ (net : Net) (s : StuckLines) (v : ℕ → ℕ) (n : ℕ) {i : Bool} (h 
   pin-gives-other =
       list_of_one (λ vs. gate (net.kind n) vs ≡ inverted_if i (at vs 0)) (wired-value h) (pin_values net s v n) (pin-count net s v n ∙ one)
 
-  -- the output gives the pin, where it is not stuck; an unknown output gives nothing (unknown-output)
+  -- the output gives the pin, where it is not stuck; an unknown output gives nothing (unknown_output)
   pub output_gives_other : (o : ℕ) → o < 2 → 2 ≤ s.pin n 0 → pin_conclusion net s v n o 0 ≡ inverted_if i o
   output_gives_other o g f =
       let w = controlling (rule_of (net.kind n)).gate in
@@ -304,7 +304,7 @@ absent_from zero f t h = refl
 absent_from (suc c) f zero h = absurd (not-suc-le-zero h)
 absent_from (suc c) f (suc t) h = absent_from c f t (le_of_suc-le-suc h)
 
--- S has the stuck lines of each frame: presentBelow c f for a fault with the stuck lines f. So each law of a stuck line speaks of the
+-- S has the stuck lines of each frame: present_below c f for a fault with the stuck lines f. So each law of a stuck line speaks of the
 -- frames below c, and from c on every line is one that is not stuck.
 module _ (net : Net) (S : ℕ → StuckLines) where
   -- "a faulted node is held at u from the start"

@@ -86,7 +86,7 @@ module _ (net : Net) (S : ℕ → StuckLines) where
       record { node = line_node net n (suc k); frame = line_frame net n t (suc k); value = pin_conclusion net (S p) (λ m. kn m p) n (kn n t) k; via = n; during = t }
 
   -- Each new value is a step. A conclusion opposite to a known value is the last step and closes the branch. That it is not the same as
-  -- the known value is seen to before: `follows` in Checker, `saysNothing` in Sweeps.
+  -- the known value is seen to before: `follows` in Checker, `says_nothing` in Sweeps.
   unfoldable pub enter : Branch → Step → Branch
   enter b s =
       elim (is_unknown (known b.values s.node s.frame)) [

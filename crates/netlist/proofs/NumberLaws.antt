@@ -1,5 +1,5 @@
 -- Demand 1: a refusal of the reader has one of these numbers and no other; and how the same law is made of a tool over it
--- (`simulation-numbers`, `checking-numbers`, `finding-numbers`).
+-- (`simulation_numbers`, `checking_numbers`, `finding_numbers`).
 use mathlib.Core.List.{List, Mem, [], ◌++◌, ◌∷◌, map, mem-append_left, mem-append_right, mem-cons_of_mem, mem-cons_self}
 use mathlib.Core.Option.{Option, none, some}
 use mathlib.Core.Path.{◌∙◌, ◌≡◌, ap, refl, sym}

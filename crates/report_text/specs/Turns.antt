@@ -1,5 +1,5 @@
 -- The report, line by line, as the program makes it: each turn writes the next line into a slice. `WritesReport` says that the lines
--- together are the report; `nextLine` is what a turn does, by the contract of `next_line`.
+-- together are the report; the definition `next_line` is what a turn does, by the contract of the function of that name.
 use Rattle.std.specs.Prelude.{◌≡◌, ℕ, zero, suc, ◌+◌, ◌%◌, ◌≤◌, Bool, true, false, cond, List, [], ◌∷◌, ◌++◌, length, take, nat_lt}
 use Rattle.std.proofs.lemmas.List.Edits.{sets}
 use Rattle.netlist.specs.Answer.{Answer, answered, refused}

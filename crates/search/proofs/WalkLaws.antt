@@ -32,7 +32,7 @@ module _ {A : Type 0} (f : ℕ → Option A) where
       go (yes p) r = let z : i ≡ suc n = omega arith in subst (λ (m : ℕ). first_some f m ≡ some a) z e
       go (no p) r = rw (r (omega arith))
 
--- It falls from each split to the next, up to the last window: no window has more than `mostFrames` frames, and node numbers are below 65,536.
+-- It falls from each split to the next, up to the last window: no window has more than `most_frames` frames, and node numbers are below 65,536.
 abbrev pub left : ℕ → Split → ℕ
 left B s = (B + 1 - s.c) * 1048576 + (most_frames - s.frame) * 65536 + (65535 - s.node)
 

@@ -49,6 +49,7 @@ fn search_window(
 
 // The first split that closes, by c up to b, then frame, then node; f frames lie behind the fault frame,
 // and the certificate's slice has this room. Each refusal is looked for before the next.
+#[tactic(auto, using(netlist::proofs::SoundLaws::facts, certificate::proofs::RoomLaws::slices_fit_lem))]
 pub fn first_split(
     netlist: &[u8],
     fault: Fault,

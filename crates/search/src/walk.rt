@@ -184,6 +184,7 @@ fn window_open(
 
 // The first split that closes, from the window of c on. Where none closes for b, none does for smaller c,
 // and the splits are not walked.
+#[tactic(auto, using(netlist::proofs::SoundLaws::facts))]
 fn search_windows(
     netlist: &[u8],
     n: u16,
@@ -213,6 +214,7 @@ fn search_windows(
 }
 
 // The same with room for notes, fan-out lists and values that are tried, and with a guess.
+#[tactic(auto, using(crate::proofs::NotesLaws::notes_guesses))]
 fn search_from(
     netlist: &[u8],
     n: u16,
@@ -243,6 +245,7 @@ fn search_from(
 
 // The first split whose two branches close, by c up to b, then frame, then node; where none does, one
 // whose c is above b.
+#[tactic(auto, using(netlist::proofs::SoundLaws::facts))]
 pub(crate) fn split_in_window(
     netlist: &[u8],
     n: u16,

@@ -96,7 +96,7 @@ module _ (c : Net) (s : StuckLines) where
       go true q = e q
       go false q = refl
 
-  -- the seen value of node n, where l has those of the nodes before it: seenList makes its list by this
+  -- the seen value of node n, where l has those of the nodes before it: seen_list makes its list by this
   abbrev pub seen_next : (ℕ → ℕ) → List ℕ → ℕ → ℕ
   seen_next g l n = seen_by c s g (at l) n
 

@@ -56,7 +56,7 @@ module _ (net : Net) (D : StuckLines) (v w : ℕ → ℕ) where
     latched_touched_list_agree x y q = build-same (λ _. latched_touched net D v x) (λ _. latched_touched net D w y) net.size (λ k n h. latched_touched_agree x y q n h)
 
 module _ (net : Net) (D : StuckLines) (v : ℕ → ℕ) where
-  -- whether node n is touched, where k says it of the nodes before it: touchedList makes its list by this
+  -- whether node n is touched, where k says it of the nodes before it: touched_list makes its list by this
   abbrev pub touched_from : (ℕ → ℕ) → List ℕ → ℕ → ℕ
   touched_from latched k n = node_touched net D v latched (at k) n
 

@@ -36,7 +36,7 @@ module _ (u v otherwise : ℕ) where
   site_other h = λ i. cond (unknown_high u h i) otherwise (one_if (not (eqb v u)))
 
 -- One frame: D has the lines whose fault starts to act in it, which at frame c are the faulted ones. From c + 1 on there are none
--- (D is noneStuck), so that the laws of other pins and nodes hold of the faulted ones too.
+-- (D is none_stuck), so that the laws of other pins and nodes hold of the faulted ones too.
 module _ (net : Net) (D : StuckLines) (v : ℕ → ℕ) (ms : ℕ → ℕ) (n : ℕ) where
   -- whether a node is touched, by the rules for its kind
   abbrev touched_by_kind : (ℕ → ℕ) → ℕ
@@ -75,7 +75,7 @@ module _ (net : Net) (D : StuckLines) (v : ℕ → ℕ) (ms : ℕ → ℕ) (n : 
   input_untouched latched h e =
       other-node latched h ∙ ap (λ (k : ℕ). cond (is_given k) (cond (is_flip_flop k) (latched n) 0) (gate_touched net D v ms n)) e
 
-  -- a flip-flop is touched if its pin was in the frame before: latched says so (latchedTouched, below)
+  -- a flip-flop is touched if its pin was in the frame before: latched says so (latched_touched, below)
   pub flip_flop_from_latched : (latched : ℕ → ℕ) → 2 ≤ D.node n → net.kind n ≡ 2 → node_touched net D v latched ms n ≡ latched n
   flip_flop_from_latched latched h e =
       other-node latched h ∙ ap (λ (k : ℕ). cond (is_given k) (cond (is_flip_flop k) (latched n) 0) (gate_touched net D v ms n)) e
@@ -306,7 +306,7 @@ module _ (net : Net) (kn : ℕ → ℕ → ℕ) where
   touched-first : (D : StuckLines) (t : ℕ) (latched : List ℕ) → touched_at D t latched 0 ≡ frame_touched D t latched
   touched-first D t latched = λ i. frame_touched D (add-zero t i) latched
 
-  -- the two tests of effectDies, over these lists
+  -- the two tests of effect_dies, over these lists
   abbrev outputs_untouched : List ℕ → Bool
   outputs_untouched l = every (output_untouched net l) net.size
 
@@ -395,7 +395,7 @@ module _ (net : Net) (kn : ℕ → ℕ → ℕ) where
             flip_flop_untouched net (starting_in D F) (λ m. kn m (t + F)) (at (touched_at D t latched F)) n k (p k)
         go false e = not_latched net (starting_in D F) (λ m. kn m (t + F)) (at (touched_at D t latched F)) n e
 
-    -- this is what effectDies says, no more and no less
+    -- this is what effect_dies says, no more and no less
     pub dies_says : effect_dies net kn F t D latched ≡ true → NothingTouched F t D latched
     dies_says e = record { outputs = outs; pins = λ n l q k g. none (touched_of net (starting_in D F) (λ m. kn m (t + F)) (at (touched_at D t latched F)) n k) (lasts n l q k g) }
       where

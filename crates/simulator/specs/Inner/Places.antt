@@ -1,6 +1,6 @@
 -- The two halves of a clock step, on a slice of any length and for any number of nodes. Each node's seen value is put into its place, by
 -- rising number, from what the places then hold; each node's latched value is put into its place. In a sound circuit and a slice with a
--- place for each node these are `seenList` and `latchedList` (`settled-seen`, `latched-into` of ClockLaws).
+-- place for each node these are `seen_list` and `latched_list` (`settled_seen`, `latched_into_lem` of ClockLaws).
 use Rattle.std.specs.Prelude.{List, ℕ}
 use Rattle.values.specs.Lists.{at}
 use Rattle.values.specs.Inner.Rewriting.{rewritten}

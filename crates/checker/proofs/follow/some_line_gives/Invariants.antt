@@ -23,6 +23,5 @@ invariant-loop-pin l =
     let net = net_of l.netlist in
     (l.pin ≤ l.count) × (any (gives_step net (present_below l.c (lines_of l.fault)) 0 (known_in l.known net.size) l.step) (suc l.pin) ≡ false)
 
--- proposed from the loop's first test
 abbrev pub decreases-loop-pin : goal.decreases-loop-pin
 decreases-loop-pin l = l.count - l.pin

@@ -1,6 +1,6 @@
 -- The simulator reads the netlist, tests the circuit (9) and the slices (16), and makes the clock step: settle, then latch.
 -- A netlist that is not sound is turned back with the reader's number (`simulation-unsound`). Where a test fails, it is the first that
--- does (`simulation-refused`). At the end both have passed (`simulation-done`), and `step-halves` makes one clock step of settling and
+-- does (`simulation-refused`). At the end both have passed (`simulation-done`), and `step_halves` makes one clock step of settling and
 -- latching.
 use mathlib.Core.Bool.{true}
 use mathlib.Core.Path.{◌∙◌, ◌≡◌, refl, sym}

@@ -13,6 +13,5 @@ use Rattle.sweeps.proofs.open.holds_fault.Given as goal
 abbrev pub invariant-loop-frame : goal.invariant-loop-frame
 invariant-loop-frame l = (l.frame ≤ l.c) × ((t : ℕ) → t < l.frame → at l.known (t * l.n + l.node) ≡ l.stuck)
 
--- proposed from the loop's first test
 abbrev pub decreases-loop-frame : goal.decreases-loop-frame
 decreases-loop-frame l = l.c - l.frame

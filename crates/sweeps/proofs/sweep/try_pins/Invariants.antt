@@ -33,6 +33,5 @@ invariant-loop-pin l =
     × (l.initial.done.steps ≤ l.done.steps)
     × (l.done.steps ≡ l.initial.done.steps → here ≡ first)
 
--- proposed from the loop's first test
 abbrev pub decreases-loop-pin : goal.decreases-loop-pin
 decreases-loop-pin l = l.count - l.pin

@@ -27,6 +27,5 @@ invariant-loop-node l =
     × (take l.n l.touched ≡ take l.n l.initial.touched)
     × Filled (latched_touched (net_of l.netlist) (lines_in l.circuit) (at l.values) (at (take l.n l.initial.touched))) l.n l.node l.touched
 
--- proposed from the loop's first test
 abbrev pub decreases-loop-node : goal.decreases-loop-node
 decreases-loop-node l = l.n - l.node

@@ -24,6 +24,5 @@ invariant-loop-node l =
     × Filled (λ j. at l.initial.touched (l.n + j)) 0 l.node l.touched
     × ((j : ℕ) → l.n ≤ j → at l.touched j ≡ at l.initial.touched j)
 
--- proposed from the loop's first test
 abbrev pub decreases-loop-node : goal.decreases-loop-node
 decreases-loop-node l = l.n - l.node

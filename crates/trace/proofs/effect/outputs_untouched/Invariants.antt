@@ -23,6 +23,5 @@ use Rattle.trace.proofs.effect.outputs_untouched.Given as goal
 abbrev pub invariant-loop-node : goal.invariant-loop-node
 invariant-loop-node l = (l.node ≤ l.n) × (every (output_untouched (net_of l.netlist) (take l.n l.touched)) l.node ≡ true)
 
--- proposed from the loop's first test
 abbrev pub decreases-loop-node : goal.decreases-loop-node
 decreases-loop-node l = l.n - l.node

@@ -26,6 +26,5 @@ invariant-loop-node l =
     (l.node ≤ l.n)
     × (every (latched_untouched (latched_touched_list (net_of l.netlist) (lines_in l.circuit) (at l.values) (at (take l.n l.touched)))) l.node ≡ true)
 
--- proposed from the loop's first test
 abbrev pub decreases-loop-node : goal.decreases-loop-node
 decreases-loop-node l = l.n - l.node

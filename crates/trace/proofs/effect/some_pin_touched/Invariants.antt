@@ -26,6 +26,5 @@ invariant-loop-pin l =
     (l.pin ≤ length_of l.netlist l.node)
     × (some_touched (drop l.pin (pins_touched (net_of l.netlist) (lines_in l.circuit) (at l.values) (at (take l.limit l.touched)) l.node)) ≡ false)
 
--- proposed from the loop's first test
 abbrev pub decreases-loop-pin : goal.decreases-loop-pin
 decreases-loop-pin l = l.pin

@@ -1,5 +1,5 @@
 -- The loop comes down from the last pin. Its invariant: `value` is the gate's function over what the pins from `pin` on are known to
--- read. Past the last pin that is the gate's unit (`function-none`), and a turn joins one more in front (`function-more`). At pin 0
+-- read. Past the last pin that is the gate's unit (`function_none`), and a turn joins one more in front (`function_more`). At pin 0
 -- it is the function over all pins, which the rule may invert.
 use Rattle.trace.specs.Trace.{pin_touched, untouched_value, untouched_values}
 use Rattle.gates.specs.Kind.{function_of, gate}

@@ -25,6 +25,5 @@ invariant-loop-pin l =
     (l.pin ≤ length_of l.netlist l.node)
     × (l.value ≡ function_of l.gate (drop l.pin (untouched_values (net_of l.netlist) (lines_in l.circuit) (at l.values) (at (take l.limit l.touched)) l.node)))
 
--- proposed from the loop's first test
 abbrev pub decreases-loop-pin : goal.decreases-loop-pin
 decreases-loop-pin l = l.pin
