@@ -2,27 +2,21 @@
 -- refusal and none are answered as they are. Where a split is found, `ready` says, behind the count of the nodes, that all is there that
 -- its certificate asks for, and `written_here`, behind the writing, that the certificate stands in its slice, how many steps it has, and
 -- that the first slice is again as the search left it.
-use Prim.Native.Nat.{ℕ, ◌+◌, ◌*◌, ◌≤◌}
-use mathlib.Core.List.{List, ◌++◌}
+use Prim.Native.Nat.{ℕ, ◌+◌, ◌*◌}
+use mathlib.Core.List.{◌++◌}
 use mathlib.Core.Path.{◌≡◌, ◌∙◌, ap, sym}
-use lib.ListN.{drop, take}
+use lib.ListN.{drop}
 use lib.Seq.{length-take-le}
 use native.Mathlib.Omega.{arith}
-use Rattle.netlist.specs.Answer.{Answer}
-use Rattle.netlist.specs.Netlist.{most_nodes, net_of}
+use Rattle.netlist.specs.Netlist.{net_of}
 use Rattle.certificate.specs.Certificate.{head_length}
-use Rattle.certificate.specs.Written.{written}
-use Rattle.knowledge.specs.Window.{most_frames}
-use Rattle.splits.specs.declared.split.Split.{Split}
-use Rattle.sweeps.specs.Splits.{certificate_for, step_count}
 use Rattle.sweeps.proofs.PartLaws.{certificate-length}
-use Rattle.search.specs.FinderCall.{FinderCall, finder_call}
+use Rattle.search.specs.FinderCall.{finder_call}
 use Rattle.search.specs.Inner.Search.{search_outcome}
 use Rattle.search.specs.declared.answer.Searched.{Searched}
-use Rattle.finder.specs.Finder.{finder_outcome, finding, found, nothing_found}
-use Rattle.finder.specs.Marks.{IsMark, NoneCloses}
+use Rattle.finder.specs.Finder.{finder_outcome, finding, found}
 use Rattle.finder.proofs.FoundLaws.{finding_means}
-use Rattle.finder.proofs.SearchedLaws.{SplitReady, search_answers, split-ready, written_says}
+use Rattle.finder.proofs.SearchedLaws.{search_answers, split-ready, written_says}
 use Rattle.finder.proofs.find.Goals as goal
 
 pub slice_bounds-write_certificate-end : goal.slice_bounds-write_certificate-end
@@ -105,8 +99,8 @@ returns-in-At-clause-certificate_after c =
     let steps = written_here.0 in
     let long = ap (λ (k : ℕ). head_length + 7 * k) steps ∙ sym (certificate-length (net_of q.netlist) q.fault q.f s) in
     let made : finder_outcome (found s.c (head_length + 7 * x.result) x.result) (x.new.known ++ drop (c.node_count-n.result * (s.c + a.f + 1)) first) second x.new.certificate ≡ finding q =
-        (λ j. finder_outcome (found s.c (long j) (steps j)) (written_here.3 j) second (written_here.2 j))
-        ∙ search_answers q (Searched.At s) c.first_split-searched.ensures c.in-At.is in
+    (λ j. finder_outcome (found s.c (long j) (steps j)) (written_here.3 j) second (written_here.2 j))
+    ∙ search_answers q (Searched.At s) c.first_split-searched.ensures c.in-At.is in
     made
 
 pub returns-in-At-clause-by_index : goal.returns-in-At-clause-by_index
@@ -123,6 +117,6 @@ returns-in-At-clause-by_index c =
     let steps = written_here.0 in
     let long = ap (λ (k : ℕ). head_length + 7 * k) steps ∙ sym (certificate-length (net_of q.netlist) q.fault q.f s) in
     let made : finder_outcome (found s.c (head_length + 7 * x.result) x.result) (x.new.known ++ drop (c.node_count-n.result * (s.c + a.f + 1)) first) second x.new.certificate ≡ finding q =
-        (λ j. finder_outcome (found s.c (long j) (steps j)) (written_here.3 j) second (written_here.2 j))
-        ∙ search_answers q (Searched.At s) c.first_split-searched.ensures c.in-At.is in
+    (λ j. finder_outcome (found s.c (long j) (steps j)) (written_here.3 j) second (written_here.2 j))
+    ∙ search_answers q (Searched.At s) c.first_split-searched.ensures c.in-At.is in
     (finding_means q _ _ _ _ made).0

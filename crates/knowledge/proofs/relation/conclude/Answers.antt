@@ -21,7 +21,9 @@ returns-then-line-eq0 c =
     c.pin_frame-pins_at.ensures ∙ ap (λ (k : ℕ). pin_frame k a.frame) c.kind_of.ensures in
     let values_are : c.tail-values.result.now ≡ drop (c.pin_frame-pins_at.result * c.node_count-n.result + 0) known =
     c.tail-values.ensures ∙ ap (λ (k : ℕ). drop k known) c.place_of.ensures in
-    rw c.if-line-eq0.true (conclude_output net (present_below a.c (lines_of a.fault)) known a.node a.frame _ _ _ _ frame_is c.node_count-n.ensures c.circuit_in-circuit.ensures values_are c.gate_value-value.result c.gate_value-value.ensures)
+    rw c.if-line-eq0.true
+    (conclude_output net (present_below a.c (lines_of a.fault)) known a.node a.frame _ _ _ _ frame_is c.node_count-n.ensures
+    c.circuit_in-circuit.ensures values_are c.gate_value-value.result c.gate_value-value.ensures)
 
 pub returns : goal.returns
 unfolding net_of

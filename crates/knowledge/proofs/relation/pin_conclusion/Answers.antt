@@ -27,7 +27,9 @@ returns-then-values_differ c =
     let first_is : c.controlling_value-first.result ≡ tried (net_of a.netlist.now) (lines_in a.circuit) (at a.values.now) a.node a.output a.pin =
     c.controlling_value-first.ensures ∙ ap (λ (r : Rule). controlling r.gate) (c.rule_of-rule.ensures ∙ ap rule_of c.kind_of.ensures) in
     let second_is = c.negation-second.ensures ∙ ap neg first_is in
-    let first_differs : against (net_of a.netlist.now) (lines_in a.circuit) (at a.values.now) a.node a.output a.pin (tried (net_of a.netlist.now) (lines_in a.circuit) (at a.values.now) a.node a.output a.pin) ≡ c.values_differ.result =
+    let differs = against (net_of a.netlist.now) (lines_in a.circuit) (at a.values.now) a.node a.output a.pin in
+    let first = tried (net_of a.netlist.now) (lines_in a.circuit) (at a.values.now) a.node a.output a.pin in
+    let first_differs : differs first ≡ c.values_differ.result =
     rw (← first_is) (rw (← c.gate_assuming-with_first.ensures) (sym c.values_differ.ensures)) in
     second_is ∙ conclusion-first _ _ _ _ _ _ not_stuck (first_differs ∙ c.if-values_differ.true)
 
@@ -39,9 +41,11 @@ returns-then-values_differ-2 c =
     let first_is : c.controlling_value-first.result ≡ tried (net_of a.netlist.now) (lines_in a.circuit) (at a.values.now) a.node a.output a.pin =
     c.controlling_value-first.ensures ∙ ap (λ (r : Rule). controlling r.gate) (c.rule_of-rule.ensures ∙ ap rule_of c.kind_of.ensures) in
     let second_is = c.negation-second.ensures ∙ ap neg first_is in
-    let first_differs : against (net_of a.netlist.now) (lines_in a.circuit) (at a.values.now) a.node a.output a.pin (tried (net_of a.netlist.now) (lines_in a.circuit) (at a.values.now) a.node a.output a.pin) ≡ c.values_differ.result =
+    let differs = against (net_of a.netlist.now) (lines_in a.circuit) (at a.values.now) a.node a.output a.pin in
+    let first = tried (net_of a.netlist.now) (lines_in a.circuit) (at a.values.now) a.node a.output a.pin in
+    let first_differs : differs first ≡ c.values_differ.result =
     rw (← first_is) (rw (← c.gate_assuming-with_first.ensures) (sym c.values_differ.ensures)) in
-    let second_differs : against (net_of a.netlist.now) (lines_in a.circuit) (at a.values.now) a.node a.output a.pin (neg (tried (net_of a.netlist.now) (lines_in a.circuit) (at a.values.now) a.node a.output a.pin)) ≡ c.values_differ-2.result =
+    let second_differs : differs (neg first) ≡ c.values_differ-2.result =
     rw (← second_is) (rw (← c.gate_assuming-with_second.ensures) (sym c.values_differ-2.ensures)) in
     first_is ∙ conclusion-second _ _ _ _ _ _ not_stuck (first_differs ∙ c.if-values_differ.false) (second_differs ∙ c.if-values_differ-2.true)
 
@@ -53,8 +57,10 @@ returns c =
     let first_is : c.controlling_value-first.result ≡ tried (net_of a.netlist.now) (lines_in a.circuit) (at a.values.now) a.node a.output a.pin =
     c.controlling_value-first.ensures ∙ ap (λ (r : Rule). controlling r.gate) (c.rule_of-rule.ensures ∙ ap rule_of c.kind_of.ensures) in
     let second_is = c.negation-second.ensures ∙ ap neg first_is in
-    let first_differs : against (net_of a.netlist.now) (lines_in a.circuit) (at a.values.now) a.node a.output a.pin (tried (net_of a.netlist.now) (lines_in a.circuit) (at a.values.now) a.node a.output a.pin) ≡ c.values_differ.result =
+    let differs = against (net_of a.netlist.now) (lines_in a.circuit) (at a.values.now) a.node a.output a.pin in
+    let first = tried (net_of a.netlist.now) (lines_in a.circuit) (at a.values.now) a.node a.output a.pin in
+    let first_differs : differs first ≡ c.values_differ.result =
     rw (← first_is) (rw (← c.gate_assuming-with_first.ensures) (sym c.values_differ.ensures)) in
-    let second_differs : against (net_of a.netlist.now) (lines_in a.circuit) (at a.values.now) a.node a.output a.pin (neg (tried (net_of a.netlist.now) (lines_in a.circuit) (at a.values.now) a.node a.output a.pin)) ≡ c.values_differ-2.result =
+    let second_differs : differs (neg first) ≡ c.values_differ-2.result =
     rw (← second_is) (rw (← c.gate_assuming-with_second.ensures) (sym c.values_differ-2.ensures)) in
     conclusion-none _ _ _ _ _ _ not_stuck (first_differs ∙ c.if-values_differ.false) (second_differs ∙ c.if-values_differ-2.false)

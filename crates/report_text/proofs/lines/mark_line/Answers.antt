@@ -3,11 +3,11 @@
 use Rattle.fault_list.proofs.TextLaws.{run-put, runs}
 use Rattle.fault_list.specs.Inner.Put.{put_at}
 use Rattle.fault_list.specs.Text.{field, line_feed, space}
-use Rattle.report_text.specs.Lines.{line_length, mark_line}
+use Rattle.report_text.specs.Lines.{mark_line}
 use Rattle.circuit.specs.Fault.{site_byte}
 use Rattle.certificate.specs.Certificate.{split_frame, split_node}
 use Rattle.certificate.specs.declared.layout.Head.{Head}
-use Rattle.std.proofs.Common.{◌≡◌, ℕ, ◌+◌, ◌≤◌, refl, ap, ◌∙◌, arith}
+use Rattle.std.proofs.Common.{◌≡◌, ℕ, ◌+◌, refl, ap, ◌∙◌, arith}
 use Rattle.report_text.proofs.lines.mark_line.Goals as goal
 
 pub returns-clause-out_after : goal.returns-clause-out_after

@@ -1,8 +1,7 @@
 use Rattle.fault_list.proofs.TextLaws.{run-put, runs}
-use Rattle.fault_list.specs.Inner.Put.{Put}
 use Rattle.fault_list.specs.Text.{field, line_feed, space}
 use Rattle.report_text.specs.Lines.{total_line}
-use Rattle.std.proofs.Common.{◌≡◌, ◌+◌, [], ◌∷◌, refl, ap, arith}
+use Rattle.std.proofs.Common.{◌≡◌, ◌+◌, [], ◌∷◌, refl, arith}
 use Rattle.report_text.proofs.lines.total_line.Goals as goal
 
 pub returns-clause-out_after : goal.returns-clause-out_after

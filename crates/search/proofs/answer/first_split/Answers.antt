@@ -3,16 +3,13 @@
 -- is made in parts of the two slices that have the size of the window of b (`searching-made`).
 use lib.ListN.{drop, length, length-replicate, replicate}
 use lib.Seq.{length-take-le}
-use mathlib.Core.Bool.{true}
 use mathlib.Core.List.{◌++◌}
-use mathlib.Core.Path.{◌∙◌, ◌≡◌, ap, sym}
+use mathlib.Core.Path.{◌∙◌, ap, sym}
 use native.Mathlib.Omega.{arith}
 use Prim.Native.Nat.{ℕ, ◌+◌, ◌*◌, ◌≤◌}
 use Rattle.certificate.proofs.RoomLaws.{slices_fit_lem}
 use Rattle.certificate.specs.Certificate.{head_length}
 use Rattle.certificate.specs.Inner.Room.{slices_number}
-use Rattle.circuit.specs.Fault.{fault_exists}
-use Rattle.netlist.specs.Netlist.{net_of}
 use Rattle.search.proofs.SearchLaws.{searching-made, searching-refused, searching-unsound}
 use Rattle.search.proofs.TestLaws.{all-passed, no_fault, short-slices, too_wide, window-size}
 use Rattle.search.specs.FinderCall.{finder_call}

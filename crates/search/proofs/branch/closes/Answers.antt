@@ -1,7 +1,7 @@
 -- Where the split is noted for its c, what is noted stays open by the contract, and so the split does. Else `decide` answers, in
 -- parts of the two work slices that have the size of the split's window.
 use Prim.Native.Nat.{ℕ, ◌+◌, ◌*◌, ◌/◌}
-use mathlib.Core.Path.{◌∙◌, ◌≡◌, ap, sym}
+use mathlib.Core.Path.{◌∙◌, ap, sym}
 use native.Mathlib.Omega.{arith}
 use Rattle.netlist.proofs.SoundLaws.{sound-size}
 use Rattle.netlist.specs.Netlist.{pin_count}

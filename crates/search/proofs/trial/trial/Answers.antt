@@ -17,7 +17,8 @@ alike-copied : (net : Net) (s : StuckLines) (l m z : List ℕ) → Alike net s l
 alike-copied net s l m z h e k = subst (λ (w : List ℕ). Alike net s l w) (sym (e ∙ sets-whole l z k)) h
 
 pub returns : goal.returns
-returns c = let a = c.args in
+returns c =
+    let a = c.args in
     let net = net_of a.netlist.now in
     let f = lines_of a.fault in
     let p = c.requires.first_len in

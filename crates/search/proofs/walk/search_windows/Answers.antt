@@ -1,6 +1,6 @@
 -- Where no split closes for b (`window_open`), none closes for a smaller c either (`none_below`), so none is the first: the answer's
 -- c is b + 1. Else the splits are walked, and what `walk_splits` ensures is what is asked.
-use Prim.Native.Nat.{ℕ, ◌+◌, ◌-◌, ◌<◌, ◌≤◌, suc}
+use Prim.Native.Nat.{ℕ, ◌+◌, ◌-◌, ◌<◌, suc}
 use borrow.Author.Tests.{lt-leb}
 use lib.Dec.{leb}
 use mathlib.Core.Bool.{cond, false}

@@ -1,6 +1,6 @@
 -- A turn that goes on keeps the invariant by `reached-next`; a turn that ends at a split that closes returns the first one
 -- (`reached-first`), and behind the loop there is none (`reached-end`).
-use Prim.Native.Nat.{ℕ, ◌+◌, ◌*◌, ◌<◌, ◌≤◌}
+use Prim.Native.Nat.{ℕ, ◌<◌, ◌≤◌}
 use borrow.Author.Tests.{le-leb, lt-leb}
 use mathlib.Core.Path.{◌∙◌, ◌≡◌, ap, subst, sym}
 use native.Mathlib.Omega.{arith}
