@@ -1,5 +1,5 @@
 use mathlib.Core.Bool.{Bool, false, true}
-use mathlib.Core.Path.{◌≡◌, ◌∙◌, ap, sym}
+use mathlib.Core.Path.{◌∙◌, ap, sym}
 use Rattle.sweeps.specs.Inner.Trials.{noting, tried}
 use Rattle.sweeps.proofs.TrialLaws.{noting-by}
 use Rattle.sweeps.proofs.notes.note_open.Goals as goal

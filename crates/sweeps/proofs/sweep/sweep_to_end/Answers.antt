@@ -4,7 +4,7 @@
 -- many sweeps are made as the definition makes, none is to come. At first no frame is calm (`calm_none`).
 use Prim.Native.Nat.{ℕ, suc, ◌+◌, ◌*◌, ◌-◌, ◌<◌}
 use native.Mathlib.Omega.{arith}
-use mathlib.Core.Path.{◌≡◌, ◌∙◌, ap, refl, sym}
+use mathlib.Core.Path.{◌≡◌, ◌∙◌, ap, refl}
 use Rattle.netlist.specs.Netlist.{net_of, pin_count}
 use Rattle.netlist.proofs.SoundLaws.{sound-size}
 use Rattle.circuit.specs.Fault.{lines_of}

@@ -12,10 +12,10 @@ use Rattle.netlist.specs.Netlist.{most_nodes, net_of, pin_count, reading, sound}
 use Rattle.netlist.proofs.SoundLaws.{sound-size}
 use Rattle.values.proofs.SetsLaws.{sets_in_part}
 use Rattle.certificate.specs.Certificate.{head_length}
-use Rattle.certificate.specs.Written.{head_bytes, run_bytes, written}
+use Rattle.certificate.specs.Written.{head_bytes, run_bytes}
 use Rattle.certificate.specs.declared.step.Step.{Step}
 use Rattle.knowledge.specs.Window.{most_frames}
-use Rattle.sweeps.specs.Splits.{branch_of, certificate_for, head_for}
+use Rattle.sweeps.specs.Splits.{branch_of}
 use Rattle.sweeps.proofs.PartLaws.{certificate-written}
 use Rattle.sweeps.proofs.StandsLaws.{window-few}
 use Rattle.sweeps.proofs.write.write_branches.Goals as goal
