@@ -65,7 +65,10 @@ returns-clause-certificate_after c =
     let count₁ = one.ensures.closed_value.1 in
     let room : head_length + (7 * length r₀ + 7 * length r₁) ≤ length l = omega (arith, c.requires.known_len.1, zero.ensures.steps_bound, one.ensures.steps_bound, count₀, count₁) in
     let first = first_run l r₀ r₁ zero.result.steps count₀ room zero.new.run zero.ensures.closed_value.2 in
-    let second = second_run l r₀ r₁ zero.result.steps count₀ room _ one.new.run first one.ensures.closed_value.2 in
+    let before = put_mid head_length (length l - head_length) l zero.new.run in
+    let at = head_length + 7 * zero.result.steps in
+    let behind : one.new.run ≡ sets (mid_of at (length before - at) before) 0 (run_bytes r₁) = cc in
+    let second = second_run l r₀ r₁ zero.result.steps count₀ room before one.new.run first behind in
     c.write_head.ensures
     ∙ (λ i. sets (second i) 0 (head_bytes (c.head_for-head.ensures i) (7 * count₀ i) (7 * count₁ i)))
     ∙ certificate-written net a.fault a.f a.split l room
