@@ -4,6 +4,7 @@
 -- many sweeps are made as the definition makes, none is to come. At first no frame is calm (`calm_none`).
 use Prim.Native.Nat.{ℕ, suc, ◌+◌, ◌*◌, ◌-◌, ◌<◌}
 use native.Mathlib.Omega.{arith}
+use borrow.Author.Rules.{rules}
 use mathlib.Core.Path.{◌≡◌, ◌∙◌, ap, refl}
 use Rattle.netlist.specs.Netlist.{net_of, pin_count}
 use Rattle.netlist.proofs.SoundLaws.{sound-size}
@@ -42,7 +43,7 @@ returns-then-done c =
     let S = present_below a.c (lines_of a.fault) in
     let here = work l.known l.run l.done.steps l.done.closed in
     let x = work t.new.known t.new.run t.result.steps t.result.closed in
-    let swept : x ≡ sweep (in_bytes net.size) net S a.w here = cc in
+    let swept : x ≡ sweep (in_bytes net.size) net S a.w here = search (rules, t.ensures.closed_after) in
     let most = a.n * a.w + 1 in
     let so_far = ap (λ (k : ℕ). sweeps (in_bytes net.size) net S a.w k here) (this_one most l.made c.loop-made-test.true) ∙ l.invariant.4 in
     ends-closed net S a.w (most - (l.made + 1)) here x swept c.if-done.true ∙ so_far
@@ -56,7 +57,7 @@ returns-then-done-before c =
     let S = present_below a.c (lines_of a.fault) in
     let here = work l.known l.run l.done.steps l.done.closed in
     let x = work t.new.known t.new.run t.result.steps t.result.closed in
-    let swept : x ≡ sweep (in_bytes net.size) net S a.w here = cc in
+    let swept : x ≡ sweep (in_bytes net.size) net S a.w here = search (rules, t.ensures.closed_after) in
     let most = a.n * a.w + 1 in
     let so_far = ap (λ (k : ℕ). sweeps (in_bytes net.size) net S a.w k here) (this_one most l.made c.loop-made-test.true) ∙ l.invariant.4 in
     ends-still net S a.w (most - (l.made + 1)) here x swept c.if-done.false c.if-done-before.true ∙ so_far
@@ -70,7 +71,7 @@ loop-made-preserved c =
     let S = present_below a.c (lines_of a.fault) in
     let here = work l.known l.run l.done.steps l.done.closed in
     let x = work t.new.known t.new.run t.result.steps t.result.closed in
-    let swept : x ≡ sweep (in_bytes net.size) net S a.w here = cc in
+    let swept : x ≡ sweep (in_bytes net.size) net S a.w here = search (rules, t.ensures.closed_after) in
     let most = a.n * a.w + 1 in
     let so_far = ap (λ (k : ℕ). sweeps (in_bytes net.size) net S a.w k here) (this_one most l.made c.loop-made-test.true) ∙ l.invariant.4 in (
       omega (arith, c.loop-made-test.true),

@@ -3,6 +3,7 @@
 -- most as many steps as the window has places, which are few (`few`): so there is room for both runs, and the counts fit their numbers.
 use Prim.Native.Nat.{ℕ, ◌+◌, ◌-◌, ◌*◌, ◌≤◌}
 use native.Mathlib.Omega.{arith}
+use borrow.Author.Rules.{rules}
 use mathlib.Core.List.{List}
 use mathlib.Core.Path.{◌≡◌, ◌∙◌, ap}
 use lib.ListN.{length}
@@ -67,7 +68,7 @@ returns-clause-certificate_after c =
     let first = first_run l r₀ r₁ zero.result.steps count₀ room zero.new.run zero.ensures.closed_value.2 in
     let before = put_mid head_length (length l - head_length) l zero.new.run in
     let at = head_length + 7 * zero.result.steps in
-    let behind : one.new.run ≡ sets (mid_of at (length before - at) before) 0 (run_bytes r₁) = cc in
+    let behind : one.new.run ≡ sets (mid_of at (length before - at) before) 0 (run_bytes r₁) = search (rules, one.ensures.closed_value.2) in
     let second = second_run l r₀ r₁ zero.result.steps count₀ room before one.new.run first behind in
     c.write_head.ensures
     ∙ (λ i. sets (second i) 0 (head_bytes (c.head_for-head.ensures i) (7 * count₀ i) (7 * count₁ i)))
