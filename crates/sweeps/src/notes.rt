@@ -7,6 +7,7 @@ use circuit::Fault;
 use splits::note_known;
 
 // Notes a set where it keeps its values open, and says whether it does.
+#[tactic(auto, unfolding(crate::specs::Inner::Trials::noting_open))]
 pub fn note_open(
     netlist: &[u8],
     fault: Fault,

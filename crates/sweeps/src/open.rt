@@ -46,7 +46,7 @@ fn slices_fit(n: u16, c: u8, f: u8, known: &[u8], touched: &[u8]) -> bool
 
 // Whether a set, wherever it is from, keeps each of its values open as a split: it has the values that
 // the fault holds, nothing is concluded from it that it has not, and in it the effect does not die.
-#[tactic(auto, using(crate::proofs::TrialLaws::slices_fit_says, crate::proofs::WorkLaws::open_tally), unfolding(crate::specs::Inner::Trials::opening, netlist::specs::Netlist::net_of))]
+#[tactic(auto, using(crate::proofs::TrialLaws::no_bytes, crate::proofs::TrialLaws::slices_fit_says, crate::proofs::WorkLaws::open_tally), unfolding(crate::specs::Inner::Trials::following, crate::specs::Inner::Trials::opening, netlist::specs::Netlist::net_of))]
 pub fn is_open_set(
     netlist: &[u8],
     fault: Fault,

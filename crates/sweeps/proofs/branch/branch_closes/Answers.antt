@@ -18,7 +18,7 @@ use Rattle.trace.specs.Inner.Tracing.{Traced, traced, tracing}
 use Rattle.trace.specs.Trace.{effect_dies}
 use Rattle.sweeps.specs.Inner.Trials.{window_bytes}
 use Rattle.knowledge.specs.Inner.Slice.{Holds, known_in}
-use Rattle.knowledge.specs.Window.{Branch, known, present_below}
+use Rattle.knowledge.specs.Window.{known, present_below}
 use Rattle.sweeps.specs.Splits.{branch_of}
 use Rattle.sweeps.proofs.StandsLaws.{closes-closed, closes-traced}
 use Rattle.sweeps.proofs.TrialLaws.{holds-bytes}

@@ -7,8 +7,7 @@ use native.Mathlib.Omega.{arith}
 use mathlib.Core.Bool.{Bool, true}
 use mathlib.Core.Path.{◌≡◌, ◌∙◌, ap, subst, sym}
 use mathlib.Core.List.{List}
-use lib.ListN.{length}
-use Rattle.netlist.specs.Netlist.{Net, most_nodes, net_of, pin_count, reading, sound}
+use Rattle.netlist.specs.Netlist.{Net, net_of, pin_count, reading, sound}
 use Rattle.circuit.specs.Fault.{StuckLines, fault_exists, lines_of}
 use Rattle.circuit.specs.declared.fault.Fault.{Fault}
 use Rattle.netlist.proofs.SoundLaws.{sound-size}

@@ -1,21 +1,11 @@
-use Prim.Native.Nat.{ℕ, ◌-◌, ◌≤◌}
-use native.Mathlib.Omega.{arith}
-use mathlib.Core.Path.{◌≡◌, ◌∙◌, ap, refl, sym}
+use Prim.Native.Nat.{◌-◌, ◌≤◌}
+use mathlib.Core.Path.{◌≡◌}
 use lib.ListN.{length}
-use Rattle.netlist.specs.Netlist.{Net, net_of}
-use Rattle.circuit.specs.Fault.{StuckLines, lines_of}
-use Rattle.knowledge.specs.Window.{present_below}
-use Rattle.sweeps.specs.Inner.Work.{Work, in_bytes, tally, work}
-use Rattle.sweeps.specs.Sweeps.{rising, sweep_frame, use_relation}
-use Rattle.sweeps.proofs.RisingLaws.{rising_more}
-use Rattle.sweeps.proofs.WorkLaws.{relations_closed, relations_tally}
-use Rattle.std.proofs.Common.{◌-◌, ◌≡◌, ◌&&◌, true, suc, ℕ, ◌*◌, ◌+◌, ◌<◌, ◌≤◌, ltb, length}
+use Rattle.netlist.specs.Netlist.{net_of}
 use Rattle.circuit.specs.Fault.{lines_of}
-use Rattle.values.specs.Lists.{at}
-use Rattle.netlist.specs.Netlist.{kind_of, length_of, net_of, pin_count, reading, sound, source_of}
-use Rattle.knowledge.specs.Window.{pin_frame, present_below}
-use Rattle.sweeps.specs.Sweeps.{rising, sweep, sweep_frame, sweeps, try_line, use_relation}
-use Rattle.sweeps.specs.Inner.Work.{CalmFrames, frame_noted, in_bytes, tally, work}
+use Rattle.knowledge.specs.Window.{present_below}
+use Rattle.sweeps.specs.Inner.Work.{in_bytes, work}
+use Rattle.sweeps.specs.Sweeps.{rising, use_relation}
 use Rattle.sweeps.proofs.sweep.sweep_frame.Given as goal
 
 abbrev pub invariant-loop-node : goal.invariant-loop-node

@@ -4,12 +4,13 @@
 -- many sweeps are made as the definition makes, none is to come. At first no frame is calm (`calm_none`).
 use Prim.Native.Nat.{ℕ, suc, ◌+◌, ◌*◌, ◌-◌, ◌<◌}
 use native.Mathlib.Omega.{arith}
-use mathlib.Core.Path.{◌≡◌, ◌∙◌, ap, refl, sym}
+use borrow.Author.Rules.{rules}
+use mathlib.Core.Path.{◌≡◌, ◌∙◌, ap, refl}
 use Rattle.netlist.specs.Netlist.{net_of, pin_count}
 use Rattle.netlist.proofs.SoundLaws.{sound-size}
 use Rattle.circuit.specs.Fault.{lines_of}
 use Rattle.knowledge.specs.Window.{present_below, most_frames}
-use Rattle.sweeps.specs.Sweeps.{sweeps}
+use Rattle.sweeps.specs.Sweeps.{sweep, sweeps}
 use Rattle.sweeps.specs.Inner.Work.{in_bytes, tally, work}
 use Rattle.sweeps.proofs.WorkLaws.{ends-closed, ends-still, goes_on, sweep-tally}
 use Rattle.sweeps.proofs.CalmLaws.{calm_none}
@@ -42,9 +43,10 @@ returns-then-done c =
     let S = present_below a.c (lines_of a.fault) in
     let here = work l.known l.run l.done.steps l.done.closed in
     let x = work t.new.known t.new.run t.result.steps t.result.closed in
+    let swept : x ≡ sweep (in_bytes net.size) net S a.w here = search (rules, t.ensures.closed_after) in
     let most = a.n * a.w + 1 in
     let so_far = ap (λ (k : ℕ). sweeps (in_bytes net.size) net S a.w k here) (this_one most l.made c.loop-made-test.true) ∙ l.invariant.4 in
-    ends-closed net S a.w (most - (l.made + 1)) here x t.ensures.closed_after c.if-done.true ∙ so_far
+    ends-closed net S a.w (most - (l.made + 1)) here x swept c.if-done.true ∙ so_far
 
 pub returns-then-done-before : goal.returns-then-done-before
 returns-then-done-before c =
@@ -55,9 +57,10 @@ returns-then-done-before c =
     let S = present_below a.c (lines_of a.fault) in
     let here = work l.known l.run l.done.steps l.done.closed in
     let x = work t.new.known t.new.run t.result.steps t.result.closed in
+    let swept : x ≡ sweep (in_bytes net.size) net S a.w here = search (rules, t.ensures.closed_after) in
     let most = a.n * a.w + 1 in
     let so_far = ap (λ (k : ℕ). sweeps (in_bytes net.size) net S a.w k here) (this_one most l.made c.loop-made-test.true) ∙ l.invariant.4 in
-    ends-still net S a.w (most - (l.made + 1)) here x t.ensures.closed_after c.if-done.false c.if-done-before.true ∙ so_far
+    ends-still net S a.w (most - (l.made + 1)) here x swept c.if-done.false c.if-done-before.true ∙ so_far
 
 pub loop-made-preserved : goal.loop-made-preserved
 loop-made-preserved c =
@@ -68,13 +71,14 @@ loop-made-preserved c =
     let S = present_below a.c (lines_of a.fault) in
     let here = work l.known l.run l.done.steps l.done.closed in
     let x = work t.new.known t.new.run t.result.steps t.result.closed in
+    let swept : x ≡ sweep (in_bytes net.size) net S a.w here = search (rules, t.ensures.closed_after) in
     let most = a.n * a.w + 1 in
     let so_far = ap (λ (k : ℕ). sweeps (in_bytes net.size) net S a.w k here) (this_one most l.made c.loop-made-test.true) ∙ l.invariant.4 in (
       omega (arith, c.loop-made-test.true),
       t.auto.known ∙ l.invariant.1,
       t.auto.run ∙ l.invariant.2,
-      ap tally t.ensures.closed_after ∙ sweep-tally net S a.w here ∙ l.invariant.3,
-      goes_on net S a.w (most - (l.made + 1)) here x t.ensures.closed_after c.if-done.false c.if-done-before.false ∙ so_far,
+      ap tally swept ∙ sweep-tally net S a.w here ∙ l.invariant.3,
+      goes_on net S a.w (most - (l.made + 1)) here x swept c.if-done.false c.if-done-before.false ∙ so_far,
       t.auto.calm ∙ l.invariant.5,
       t.ensures.calm_frames_2,
     )

@@ -1,7 +1,6 @@
 -- The loop sweeps the frames by rising number, and the invariant says so: the branch is what the sweeps of the frames below `frame` make
 -- of it, and the frames that are noted calm are. A calm frame that is left out is a sweep of it all the same, as the call ensures. The
 -- sweeps of frames keep the tally (`frames-tally`), which each call asks for.
-use Prim.Native.Nat.{◌≤◌}
 use native.Mathlib.Omega.{arith}
 use mathlib.Core.Path.{◌≡◌, ◌∙◌, ap}
 use Rattle.circuit.specs.Fault.{lines_of}

@@ -4,11 +4,10 @@
 use Prim.Native.Nat.{ℕ, ◌+◌, ◌*◌, ◌<◌}
 use native.Mathlib.Omega.{arith}
 use mathlib.Core.Path.{◌≡◌, ◌∙◌, ap, sym}
-use Rattle.netlist.specs.Netlist.{Net, net_of}
-use Rattle.circuit.specs.Fault.{StuckLines, lines_of}
-use Rattle.certificate.specs.declared.step.Step.{Step}
+use Rattle.netlist.specs.Netlist.{net_of}
+use Rattle.circuit.specs.Fault.{lines_of}
 use Rattle.knowledge.specs.Window.{present_below}
-use Rattle.sweeps.specs.Inner.Work.{Work, work}
+use Rattle.sweeps.specs.Inner.Work.{work}
 use Rattle.sweeps.proofs.WorkLaws.{line-closed, line-new, line-old, line-silent, steps-below}
 use Rattle.sweeps.proofs.sweep.try_line.Goals as goal
 
@@ -36,7 +35,7 @@ returns-then-byte_at-value c =
     let w = work a.known.now a.run.now a.progress.steps a.progress.closed in
     let step = c.conclude-step.result in
     let place : c.place_of-place.result ≡ step.frame * net.size + step.node =
-        c.place_of-place.ensures ∙ ap (λ (x : ℕ). step.frame * x + step.node) c.requires.n_value in
+    c.place_of-place.ensures ∙ ap (λ (x : ℕ). step.frame * x + step.node) c.requires.n_value in
     let old = sym c.byte_at.ensures ∙ c.if-byte_at-value.true in
     sym
     (line-old net S a.node a.frame a.line w step c.conclude-step.ensures c.if-progress.false c.if-value-ge-UNKNOWN.false
@@ -68,7 +67,7 @@ returns c =
     let w = work a.known.now a.run.now a.progress.steps a.progress.closed in
     let step = c.conclude-step.result in
     let place : c.place_of-place.result ≡ step.frame * net.size + step.node =
-        c.place_of-place.ensures ∙ ap (λ (x : ℕ). step.frame * x + step.node) c.requires.n_value in
+    c.place_of-place.ensures ∙ ap (λ (x : ℕ). step.frame * x + step.node) c.requires.n_value in
     line-new net S a.node a.frame a.line w step c.conclude-step.ensures c.if-progress.false c.if-value-ge-UNKNOWN.false
     c.place_of-place.result place (λ z. c.if-byte_at-value.false (c.byte_at.ensures ∙ z))
     c.enter_value-closed.new.known c.put_step.new.run c.enter_value-closed.result c.enter_value-closed.ensures c.put_step.ensures

@@ -1,12 +1,10 @@
-use Prim.Native.Nat.{ℕ, suc, ◌+◌, ◌*◌, ◌<◌}
-use native.Mathlib.Omega.{arith}
-use mathlib.Core.Path.{◌≡◌, ◌∙◌, ap, subst, sym}
-use Rattle.netlist.specs.Netlist.{Net, net_of, source_of}
+use Prim.Native.Nat.{ℕ, ◌+◌, ◌*◌, ◌<◌}
+use mathlib.Core.Path.{◌≡◌, ◌∙◌, subst, sym}
+use Rattle.netlist.specs.Netlist.{net_of, source_of}
 use Rattle.values.specs.Lists.{at}
-use Rattle.circuit.specs.Fault.{StuckLines, lines_of}
+use Rattle.circuit.specs.Fault.{lines_of}
 use Rattle.knowledge.specs.Window.{pin_frame, present_below}
-use Rattle.sweeps.specs.Sweeps.{try_line}
-use Rattle.sweeps.specs.Inner.Work.{Work, in_bytes, work}
+use Rattle.sweeps.specs.Inner.Work.{work}
 use mathlib.Core.Bool.{◌&&◌, true}
 use lib.Dec.{ltb}
 use borrow.Author.Tests.{ltb-true}
@@ -26,7 +24,7 @@ returns-then-source_keeps c =
     let frame = pin_frame (net.kind a.node) a.frame in
     let hk = subst (λ (x : ℕ). a.pin < x) (sym (pins-length bytes a.node)) c.requires.pin_in_bounds.0 in
     let e : frame * a.n + source_of bytes a.node a.pin ≡ frame * net.size + at (net.pins a.node) a.pin =
-        λ i. frame * c.requires.n_value i + sym (pins-at bytes a.node a.pin c.requires.pin_in_bounds.0) i in
+    λ i. frame * c.requires.n_value i + sym (pins-at bytes a.node a.pin c.requires.pin_in_bounds.0) i in
     let known = ltb (at a.known.now (frame * a.n + source_of bytes a.node a.pin)) 2 in
     let q : (a.settled && known) ≡ true = sym c.source_keeps.ensures ∙ c.if-source_keeps.true in
     let settled = c.requires.closed_value (and_left a.settled known q) in

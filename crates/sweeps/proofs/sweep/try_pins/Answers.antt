@@ -1,17 +1,15 @@
 -- The loop tries the lines of the pins' sources in order, and the invariant says so, with two facts about steps: there are as many as
 -- before the pins or more, and where no more, nothing has changed. So while the code finds no step since before the output's line, that
 -- line would still make none (`settled_stays`), which `try_pin` asks where it is told that the relation is settled.
-use Prim.Native.Nat.{ℕ, suc, ◌-◌, ◌<◌, ◌≤◌}
+use Prim.Native.Nat.{ℕ, suc}
 use native.Mathlib.Omega.{arith}
-use mathlib.Core.Path.{◌≡◌, ◌∙◌, ap, refl, sym}
-use lib.ListN.{length}
-use Rattle.netlist.specs.Netlist.{Net, length_of, net_of}
-use Rattle.circuit.specs.Fault.{StuckLines, lines_of}
+use mathlib.Core.Path.{◌≡◌, ◌∙◌, ap, sym}
+use Rattle.netlist.specs.Netlist.{net_of}
+use Rattle.circuit.specs.Fault.{lines_of}
 use Rattle.knowledge.specs.Window.{present_below}
-use Rattle.sweeps.specs.Sweeps.{rising, try_line}
+use Rattle.sweeps.specs.Sweeps.{try_line}
 use Rattle.sweeps.specs.Inner.Work.{Work, in_bytes, tally, work}
-use borrow.Author.Tests.{eqb-true}
-use Rattle.sweeps.proofs.KnownPinLaws.{pin_grows, pin-still, settled_stays}
+use Rattle.sweeps.proofs.KnownPinLaws.{pin_grows, pin-still}
 use Rattle.sweeps.proofs.RisingLaws.{rising_more}
 use Rattle.sweeps.proofs.WorkLaws.{pins-tally}
 use Rattle.sweeps.proofs.sweep.try_pins.Goals as goal

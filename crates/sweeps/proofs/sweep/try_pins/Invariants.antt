@@ -1,24 +1,11 @@
-use Prim.Native.Nat.{ℕ, suc, ◌-◌, ◌<◌, ◌≤◌}
-use native.Mathlib.Omega.{arith}
-use mathlib.Core.Path.{◌≡◌, ◌∙◌, ap, refl, sym}
+use Prim.Native.Nat.{ℕ, suc, ◌-◌, ◌≤◌}
+use mathlib.Core.Path.{◌≡◌}
 use lib.ListN.{length}
-use borrow.Author.Rules.{rules}
-use Rattle.netlist.specs.Netlist.{Net, length_of, net_of}
-use Rattle.circuit.specs.Fault.{StuckLines, lines_of}
+use Rattle.netlist.specs.Netlist.{net_of}
+use Rattle.circuit.specs.Fault.{lines_of}
 use Rattle.knowledge.specs.Window.{present_below}
 use Rattle.sweeps.specs.Sweeps.{rising, try_line}
-use Rattle.sweeps.specs.Inner.Work.{Work, in_bytes, tally, work}
-use borrow.Author.Tests.{eqb-true}
-use Rattle.sweeps.proofs.KnownPinLaws.{pin_grows, pin-still, settled_stays}
-use Rattle.sweeps.proofs.RisingLaws.{rising_more}
-use Rattle.sweeps.proofs.WorkLaws.{pins-tally}
-use Rattle.std.proofs.Common.{◌-◌, ◌≡◌, ◌&&◌, true, suc, ℕ, ◌*◌, ◌+◌, ◌<◌, ◌≤◌, ltb, length}
-use Rattle.circuit.specs.Fault.{lines_of}
-use Rattle.values.specs.Lists.{at}
-use Rattle.netlist.specs.Netlist.{kind_of, length_of, net_of, pin_count, reading, sound, source_of}
-use Rattle.knowledge.specs.Window.{pin_frame, present_below}
-use Rattle.sweeps.specs.Sweeps.{rising, sweep, sweep_frame, sweeps, try_line, use_relation}
-use Rattle.sweeps.specs.Inner.Work.{CalmFrames, frame_noted, in_bytes, tally, work}
+use Rattle.sweeps.specs.Inner.Work.{in_bytes, work}
 use Rattle.sweeps.proofs.sweep.try_pins.Given as goal
 
 abbrev pub invariant-loop-pin : goal.invariant-loop-pin

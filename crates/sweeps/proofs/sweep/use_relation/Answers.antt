@@ -2,20 +2,17 @@
 -- concluded of a pin, and the output's line is the whole. Else the pins follow, and both together are the definition's (`relation-pins`).
 -- What `try_pins` asks is known behind the output's line: the tally is the same, the steps are as many or more, and where there are no
 -- more the line would make none again (`settled-after`).
-use Prim.Native.Nat.{ℕ, suc, ◌+◌, ◌*◌, ◌≤◌}
+use Prim.Native.Nat.{ℕ, suc, ◌≤◌}
 use native.Mathlib.Omega.{arith}
-use mathlib.Core.Bool.{true}
-use mathlib.Core.Path.{◌≡◌, ◌∙◌, ap, subst, sym}
-use Rattle.netlist.specs.Netlist.{Net, length_of, net_of}
-use Rattle.values.specs.Lists.{at}
-use Rattle.circuit.specs.Fault.{StuckLines, lines_of}
-use Rattle.knowledge.specs.Window.{in_force, present_below}
+use mathlib.Core.Path.{◌≡◌, ◌∙◌, ap, sym}
+use Rattle.netlist.specs.Netlist.{length_of, net_of}
+use Rattle.circuit.specs.Fault.{lines_of}
+use Rattle.knowledge.specs.Window.{present_below}
 use Rattle.sweeps.specs.Sweeps.{rising, try_line}
 use Rattle.sweeps.specs.Inner.Work.{Work, in_bytes, tally, work}
-use borrow.Author.Tests.{not-false}
 use Rattle.netlist.proofs.NetlistLaws.{pins-length}
 use Rattle.sweeps.proofs.KnownPinLaws.{line_grows, settled-after}
-use Rattle.sweeps.proofs.WorkLaws.{line-tally, relation_idle, relation_output, relation-pins}
+use Rattle.sweeps.proofs.WorkLaws.{line-tally, relation-pins}
 use Rattle.sweeps.proofs.sweep.use_relation.Goals as goal
 
 pub try_pins-requires-clause-closed_bound : goal.try_pins-requires-clause-closed_bound
@@ -38,7 +35,7 @@ try_pins-requires-clause-start_le_steps c =
     let x = work c.try_line-done.new.known c.try_line-done.new.run c.try_line-done.result.steps c.try_line-done.result.closed in
     let is : x ≡ try_line (in_bytes net.size) net S a.node a.frame 0 w = c.try_line-done.ensures in
     let grows : a.progress.steps ≤ c.try_line-done.result.steps =
-        omega (arith, ap (λ (z : Work). z.steps) is, line_grows net S a.node a.frame 0 w) in
+    omega (arith, ap (λ (z : Work). z.steps) is, line_grows net S a.node a.frame 0 w) in
     (grows, settled-after net S a.node a.frame w x is)
 
 pub returns : goal.returns

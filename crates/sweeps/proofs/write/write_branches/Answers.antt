@@ -3,6 +3,7 @@
 -- most as many steps as the window has places, which are few (`few`): so there is room for both runs, and the counts fit their numbers.
 use Prim.Native.Nat.{ℕ, ◌+◌, ◌-◌, ◌*◌, ◌≤◌}
 use native.Mathlib.Omega.{arith}
+use borrow.Author.Rules.{rules}
 use mathlib.Core.List.{List}
 use mathlib.Core.Path.{◌≡◌, ◌∙◌, ap}
 use lib.ListN.{length}
@@ -12,10 +13,10 @@ use Rattle.netlist.specs.Netlist.{most_nodes, net_of, pin_count, reading, sound}
 use Rattle.netlist.proofs.SoundLaws.{sound-size}
 use Rattle.values.proofs.SetsLaws.{sets_in_part}
 use Rattle.certificate.specs.Certificate.{head_length}
-use Rattle.certificate.specs.Written.{head_bytes, run_bytes, written}
+use Rattle.certificate.specs.Written.{head_bytes, run_bytes}
 use Rattle.certificate.specs.declared.step.Step.{Step}
 use Rattle.knowledge.specs.Window.{most_frames}
-use Rattle.sweeps.specs.Splits.{branch_of, certificate_for, head_for}
+use Rattle.sweeps.specs.Splits.{branch_of}
 use Rattle.sweeps.proofs.PartLaws.{certificate-written}
 use Rattle.sweeps.proofs.StandsLaws.{window-few}
 use Rattle.sweeps.proofs.write.write_branches.Goals as goal
@@ -65,7 +66,10 @@ returns-clause-certificate_after c =
     let count₁ = one.ensures.closed_value.1 in
     let room : head_length + (7 * length r₀ + 7 * length r₁) ≤ length l = omega (arith, c.requires.known_len.1, zero.ensures.steps_bound, one.ensures.steps_bound, count₀, count₁) in
     let first = first_run l r₀ r₁ zero.result.steps count₀ room zero.new.run zero.ensures.closed_value.2 in
-    let second = second_run l r₀ r₁ zero.result.steps count₀ room _ one.new.run first one.ensures.closed_value.2 in
+    let before = put_mid head_length (length l - head_length) l zero.new.run in
+    let at = head_length + 7 * zero.result.steps in
+    let behind : one.new.run ≡ sets (mid_of at (length before - at) before) 0 (run_bytes r₁) = search (rules, one.ensures.closed_value.2) in
+    let second = second_run l r₀ r₁ zero.result.steps count₀ room before one.new.run first behind in
     c.write_head.ensures
     ∙ (λ i. sets (second i) 0 (head_bytes (c.head_for-head.ensures i) (7 * count₀ i) (7 * count₁ i)))
     ∙ certificate-written net a.fault a.f a.split l room
