@@ -3,13 +3,12 @@
 -- that the calls have read put in.
 use borrow.Author.Tests.{ne_eqb}
 use Rattle.gates.specs.Kind.{is_given}
-use Rattle.trace.proofs.TouchedLaws.{touched_flip_flop, touched-gate, touched-input}
+use Rattle.trace.proofs.TouchedLaws.{touched-gate, touched-input}
 use mathlib.Core.Path.{◌≡◌, ◌∙◌, sym, ap}
 use lib.ListN.{take}
-use Rattle.netlist.specs.Netlist.{Net, net_of}
-use Prim.Native.Nat.{ℕ}
+use Rattle.netlist.specs.Netlist.{net_of}
 use Rattle.values.specs.Lists.{at}
-use Rattle.circuit.specs.Fault.{StuckLines, lines_in}
+use Rattle.circuit.specs.Fault.{lines_in}
 use Rattle.trace.proofs.effect.node_touched.Goals as goal
 
 pub returns-then-is_given : goal.returns-then-is_given

@@ -1,16 +1,14 @@
-use borrow.Author.Tests.{eq-eqb, ne_eqb}
+use borrow.Author.Tests.{ne_eqb}
 use Rattle.circuit.specs.Fault.{lines_in}
 use Rattle.trace.specs.Trace.{latched_touched_list, latched_untouched}
 use Rattle.trace.proofs.TraceAgreement.{latched_law}
-use Prim.Native.Nat.{ℕ, ◌≤◌, ◌<◌, ◌-◌}
-use mathlib.Core.List.{List}
-use mathlib.Core.Path.{◌≡◌, ◌∙◌, sym, refl}
-use mathlib.Core.Bool.{true}
+use Prim.Native.Nat.{◌<◌}
+use mathlib.Core.Path.{◌∙◌, sym}
 use lib.ListN.{take}
 use native.Mathlib.Omega.{arith}
 use Rattle.netlist.specs.Netlist.{net_of}
-use Rattle.values.specs.Lists.{at, every}
-use Rattle.values.proofs.ListLaws.{every_more, every_fails, every-done}
+use Rattle.values.specs.Lists.{at}
+use Rattle.values.proofs.ListLaws.{every_fails}
 use Rattle.trace.proofs.effect.pins_untouched.Goals as goal
 
 pub returns-then-latched_touched-ne0 : goal.returns-then-latched_touched-ne0

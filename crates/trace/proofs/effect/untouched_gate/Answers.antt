@@ -1,14 +1,12 @@
 -- The loop comes down from the last pin. Its invariant: `value` is the gate's function over what the pins from `pin` on are known to
 -- read. Past the last pin that is the gate's unit (`function_none`), and a turn joins one more in front (`function_more`). At pin 0
 -- it is the function over all pins, which the rule may invert.
-use Rattle.trace.specs.Trace.{pin_touched, untouched_value, untouched_values}
-use Rattle.gates.specs.Kind.{function_of, gate}
+use Rattle.trace.specs.Trace.{pin_touched, untouched_value}
 use Rattle.simulator.proofs.PinLaws.{function_none, function_more, length-by-pin, by-pin-at}
 use Prim.Native.Nat.{ℕ, ◌≤◌, ◌<◌, ◌-◌}
 use native.Mathlib.Omega.{arith}
-use mathlib.Core.List.{List}
 use mathlib.Core.Path.{◌≡◌, ◌∙◌, sym}
-use lib.ListN.{drop, length, take}
+use lib.ListN.{length, take}
 use Rattle.netlist.specs.Netlist.{length_of, net_of}
 use Rattle.values.specs.Lists.{at, indexed}
 use Rattle.circuit.specs.Fault.{lines_in}
