@@ -1,16 +1,15 @@
 -- The tests of a step, one after the other: `follows_by` puts them together, from the first that fails or from all four.
 use lib.Dec.{eqb}
 use Prim.Native.Nat.{ℕ, ◌*◌, ◌+◌}
-use mathlib.Core.Path.{◌≡◌, ◌∙◌, sym, ap, refl}
+use mathlib.Core.Path.{◌∙◌, sym, ap, refl}
 use mathlib.Core.Bool.{true, false}
 use borrow.Author.Tests.{eq-eqb, ne_eqb}
-use Rattle.netlist.specs.Netlist.{Net, net_of}
+use Rattle.netlist.specs.Netlist.{net_of}
 use Rattle.values.specs.Lists.{at}
-use Rattle.circuit.specs.Fault.{StuckLines, lines_of}
-use Rattle.certificate.specs.declared.step.Step.{Step}
-use Rattle.knowledge.specs.Window.{in_force, present_below}
+use Rattle.circuit.specs.Fault.{lines_of}
+use Rattle.knowledge.specs.Window.{present_below}
 use Rattle.knowledge.specs.Inner.Slice.{known_in}
-use Rattle.checker.proofs.FollowLaws.{follows_by, within}
+use Rattle.checker.proofs.FollowLaws.{follows_by}
 use Rattle.checker.proofs.follow.step_follows.Goals as goal
 
 pub returns-then-not-step_within : goal.returns-then-not-step_within

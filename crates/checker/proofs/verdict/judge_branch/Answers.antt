@@ -6,8 +6,8 @@ use Prim.Native.Nat.{ℕ, ◌<◌, ◌≤◌, ◌-◌, ◌+◌, ◌*◌, ◌/◌
 use native.Mathlib.Nat.{mul-le-mul_left}
 use native.Mathlib.Omega.{arith}
 use mathlib.Core.Path.{◌≡◌, ◌∙◌, ap, sym, subst}
-use mathlib.Core.List.{List, [], ◌∷◌}
-use mathlib.Core.Bool.{Bool, false, true}
+use mathlib.Core.List.{List, []}
+use mathlib.Core.Bool.{Bool, true}
 use lib.ListN.{length}
 use Rattle.netlist.specs.Netlist.{Net, net_of, pin_count}
 use Rattle.netlist.proofs.SoundLaws.{sound-size}
@@ -20,7 +20,6 @@ use Rattle.knowledge.specs.Inner.Slice.{Entered, Holds, begin_in, enter_at, know
 use Rattle.knowledge.specs.Window.{Branch, begin, present_below}
 use Rattle.knowledge.proofs.HoldLaws.{begin_closed_in, begin_holds_in, fault_says}
 use Rattle.trace.specs.Inner.Tracing.{Traced}
-use Rattle.trace.specs.Trace.{effect_dies}
 use Rattle.trace.proofs.TouchedLaws.{tracing_long}
 use Rattle.checker.specs.Checker.{replay}
 use Rattle.checker.proofs.ReplayLaws.{Reached, after_contradiction, begin_full, end-left, judged_contradicted, judged-refused, judged-traced, not_following, read_left, step-entered, steps_left}
@@ -40,7 +39,7 @@ begins : (net : Net) (f : Fault) (W c F n t v size : ℕ) (run : List ℕ)
     → fault_exists net f ≡ true → W ≡ c + F + 1 → n < net.size → t < W → v < 2 → size ≡ net.size * W
     → {e : Entered} → e ≡ begin_in net.size f c size n t v
     → let S = present_below c (lines_of f) in
-      Reached net S W (steps_in (length run / 7) run) (steps_left run 0) (begin net S W n t v) e.bytes e.closed
+    Reached net S W (steps_in (length run / 7) run) (steps_left run 0) (begin net S W n t v) e.bytes e.closed
 begins net f W c F n t v size run hf hw hn ht hv full {e} q =
     let S = present_below c (lines_of f) in
     let first = begin net S W n t v in
