@@ -1,12 +1,13 @@
 -- The effect trace depends on what is known within the window alone: nodes below N and frames below W.
 use mathlib.Core.Bool.{Bool, ◌&&◌, cond, false, true}
 use mathlib.Core.List.{List}
-use mathlib.Core.Path.{◌∙◌, ◌≡◌, ap, refl}
+use mathlib.Core.Path.{◌∙◌, ◌≡◌, ap, refl, sym}
 use Prim.Native.Nat.{◌+◌, ◌<◌, suc, zero, ℕ}
 use native.Mathlib.Omega.{arith}
+use borrow.Author.Tests.{ne_eqb}
 use Rattle.trace.specs.Trace.{effect_dies, gate_touched, latched_touched, latched_touched_list, latched_untouched, one_if, touched_list, node_touched, output_untouched, pin_touched, pins_touched, site_touched, some_touched, untouched_value}
 use Rattle.simulator.proofs.ClockLaws.{Ordered}
-use Rattle.values.proofs.ListLaws.{Below, build_agree, build-same, get_or-build, indexed_agree}
+use Rattle.values.proofs.ListLaws.{Below, build_agree, build-same, every_fails, get_or-build, indexed_agree}
 use Rattle.circuit.specs.Fault.{StuckLines, none_stuck}
 use Rattle.gates.specs.Kind.{gate, is_flip_flop, is_given}
 use Rattle.values.specs.Lists.{at, build, every}
@@ -71,6 +72,13 @@ module _ (net : Net) (D : StuckLines) (v : ℕ → ℕ) where
   pub latched_law : (ms : ℕ → ℕ) (n : ℕ) → n < net.size → at (latched_touched_list net D v ms) n ≡ latched_touched net D v ms n
   unfolding latched_touched_list
   latched_law ms n h = get_or-build (λ _. latched_touched net D v ms) 0 net.size h
+
+  -- one flip-flop with a touched pin is enough
+  pub latched_fails : (ms : ℕ → ℕ) (i n r : ℕ) → n ≡ net.size → i < n → r ≡ latched_touched net D v ms i → (r ≡ 0 → ⊥)
+      → false ≡ every (latched_untouched (latched_touched_list net D v ms)) n
+  latched_fails ms i n r e h q d =
+      let b : i < net.size = omega (arith, e, h) in
+      sym (every_fails (latched_untouched (latched_touched_list net D v ms)) n i h (ne_eqb _ 0 (λ z. d (q ∙ sym (latched_law ms i b) ∙ z))))
 
 module _ (net : Net) (o : Ordered net) (W : ℕ) (kn kn' : ℕ → ℕ → ℕ) (e : SameWindow net W kn kn') where
   -- frame t: what is touched in it, and which flip-flops are in the next frame

@@ -141,7 +141,7 @@ fn gate_touched(
 
 // Whether a node is touched, where its own place holds what its flip-flop latched, and the places below it
 // hold what is touched in this frame.
-#[tactic(auto, using(crate::proofs::TouchedLaws::touched_flip_flop), unfolding(netlist::specs::Netlist::net_of))]
+#[tactic(auto, unfolding(crate::specs::Trace::node_touched, netlist::specs::Netlist::net_of))]
 fn node_touched(netlist: &[u8], circuit: Circuit, values: &[u8], touched: &[u8], node: u16) -> u8
     ensures { result ≡ node_touched (net_of netlist.now) (lines_in circuit) (at values.now) (at touched.now) (at (take node touched.now)) node }
 {
@@ -251,7 +251,7 @@ fn outputs_untouched(netlist: &[u8], n: u16, touched: &[u8]) -> bool
 }
 
 // Whether no flip-flop's pin is touched.
-#[tactic(auto, using(crate::proofs::TraceAgreement::latched_law, values::proofs::ListLaws::every_more, values::proofs::ListLaws::every_fails), unfolding(values::specs::Lists::every))]
+#[tactic(auto, using(crate::proofs::TraceAgreement::latched_fails, crate::proofs::TraceAgreement::latched_law, values::proofs::ListLaws::every_more), unfolding(values::specs::Lists::every))]
 fn pins_untouched(netlist: &[u8], n: u16, circuit: Circuit, values: &[u8], touched: &[u8]) -> bool
     requires { n ≡ (net_of netlist.now).size }
     ensures { result ≡ every (latched_untouched (latched_touched_list (net_of netlist.now) (lines_in circuit) (at values.now) (at (take n touched.now)))) n }

@@ -1,10 +1,8 @@
-use Prim.Native.Nat.{ℕ}
-use mathlib.Core.Path.{◌≡◌, ◌∙◌, sym}
+use mathlib.Core.Path.{◌∙◌, sym}
 use borrow.Author.Tests.{eq-eqb, ne_eqb}
-use Rattle.netlist.specs.Netlist.{Net, net_of}
-use Rattle.circuit.specs.Fault.{StuckLines, lines_of}
-use Rattle.certificate.specs.declared.step.Step.{Step}
-use Rattle.knowledge.specs.Window.{conclusion, present_below}
+use Rattle.netlist.specs.Netlist.{net_of}
+use Rattle.circuit.specs.Fault.{lines_of}
+use Rattle.knowledge.specs.Window.{present_below}
 use Rattle.knowledge.specs.Inner.Slice.{known_in}
 use Rattle.knowledge.proofs.WindowLaws.{conclusion-node, conclusion-frame}
 use Rattle.checker.proofs.follow.line_gives.Goals as goal

@@ -1,13 +1,11 @@
 -- The lines of a relation, one after the other: the loop's invariant says that none of the lines 0 to `pin` gives the step. Where a line
 -- gives it, `any-by` says that one does; where all pins are tried, the invariant says that none does.
-use Prim.Native.Nat.{ℕ, suc, ◌≤◌, ◌<◌, ◌-◌, ◌+◌}
+use Prim.Native.Nat.{suc, ◌<◌, ◌+◌}
 use native.Mathlib.Omega.{arith}
 use native.Mathlib.Numerals.{add-one}
 use mathlib.Core.Path.{◌≡◌, ◌∙◌, sym}
-use mathlib.Core.Bool.{Bool, false}
 use lib.ListN.{length}
 use Rattle.netlist.specs.Netlist.{net_of}
-use Rattle.values.specs.Lists.{any}
 use Rattle.circuit.specs.Fault.{lines_of}
 use Rattle.knowledge.specs.Window.{present_below}
 use Rattle.knowledge.specs.Inner.Slice.{known_in}

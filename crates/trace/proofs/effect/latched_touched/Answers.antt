@@ -1,12 +1,10 @@
-use mathlib.Core.Bool.{Bool, false, true}
-use Prim.Native.Nat.{ℕ}
-use Rattle.trace.specs.Trace.{latched_touched, one_if}
-use Rattle.trace.proofs.TouchedLaws.{not_latched, latched-by}
-use mathlib.Core.Path.{◌≡◌, ◌∙◌, sym}
+use mathlib.Core.Bool.{false, true}
+use Rattle.trace.proofs.TouchedLaws.{latched-by}
+use mathlib.Core.Path.{◌∙◌, sym}
 use lib.ListN.{take}
-use Rattle.netlist.specs.Netlist.{Net, net_of}
+use Rattle.netlist.specs.Netlist.{net_of}
 use Rattle.values.specs.Lists.{at}
-use Rattle.circuit.specs.Fault.{StuckLines, lines_in}
+use Rattle.circuit.specs.Fault.{lines_in}
 use Rattle.trace.proofs.effect.latched_touched.Goals as goal
 
 pub returns-then-some_pin_touched : goal.returns-then-some_pin_touched

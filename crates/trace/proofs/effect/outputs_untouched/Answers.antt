@@ -1,13 +1,9 @@
 use Rattle.trace.specs.Trace.{output_untouched}
 use Rattle.trace.proofs.TouchedLaws.{output_read}
-use Prim.Native.Nat.{ℕ, ◌≤◌, ◌-◌}
-use mathlib.Core.Path.{◌≡◌, ◌∙◌, sym, refl}
-use mathlib.Core.Bool.{Bool, true}
+use mathlib.Core.Path.{◌∙◌, sym}
 use lib.ListN.{take}
-use native.Mathlib.Omega.{arith}
 use Rattle.netlist.specs.Netlist.{net_of}
-use Rattle.values.specs.Lists.{every}
-use Rattle.values.proofs.ListLaws.{every_more, every_fails, every-done}
+use Rattle.values.proofs.ListLaws.{every_fails}
 use Rattle.trace.proofs.effect.outputs_untouched.Goals as goal
 
 pub returns-then-not-output_untouched : goal.returns-then-not-output_untouched

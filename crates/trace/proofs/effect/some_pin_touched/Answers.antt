@@ -1,13 +1,11 @@
 -- The loop comes down from the last pin. Its invariant: none of the pins from `pin` on is touched. A pin that is touched ends it, since
 -- one is enough (`some_at`); one that is not is one more in front (`some_more`). At pin 0 that is said of all of them.
-use mathlib.Core.Bool.{false}
-use Rattle.trace.specs.Trace.{pin_touched, pins_touched, some_touched}
+use Rattle.trace.specs.Trace.{pin_touched}
 use Rattle.trace.proofs.TouchedLaws.{some_at, some_none, some_more}
-use Prim.Native.Nat.{ℕ, ◌≤◌, ◌<◌, ◌-◌}
-use mathlib.Core.List.{List}
+use Prim.Native.Nat.{◌<◌, ◌-◌}
 use native.Mathlib.Omega.{arith}
 use mathlib.Core.Path.{◌≡◌, ◌∙◌, sym}
-use lib.ListN.{drop, length, take}
+use lib.ListN.{length, take}
 use Rattle.netlist.specs.Netlist.{length_of, net_of}
 use Rattle.values.specs.Lists.{at, indexed}
 use Rattle.circuit.specs.Fault.{lines_in}

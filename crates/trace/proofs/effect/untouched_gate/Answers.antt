@@ -1,15 +1,13 @@
 -- The loop comes down from the last pin. Its invariant: `value` is the gate's function over what the pins from `pin` on are known to
 -- read. Past the last pin that is the gate's unit (`function_none`), and a turn joins one more in front (`function_more`). At pin 0
 -- it is the function over all pins, which the rule may invert.
-use Rattle.trace.specs.Trace.{pin_touched, untouched_value, untouched_values}
-use Rattle.gates.specs.Kind.{function_of, gate}
+use Rattle.trace.specs.Trace.{pin_touched, untouched_value}
 use Rattle.simulator.proofs.PinLaws.{function_none, function_more, length-by-pin, by-pin-at}
 use Prim.Native.Nat.{ℕ, ◌≤◌, ◌<◌, ◌-◌}
 use native.Mathlib.Omega.{arith}
-use mathlib.Core.List.{List}
 use mathlib.Core.Path.{◌≡◌, ◌∙◌, sym}
-use lib.ListN.{drop, length, take}
-use Rattle.netlist.specs.Netlist.{length_of, net_of}
+use lib.ListN.{length, take}
+use Rattle.netlist.specs.Netlist.{length_of, net_of, source_of}
 use Rattle.values.specs.Lists.{at, indexed}
 use Rattle.circuit.specs.Fault.{lines_in}
 use Rattle.trace.proofs.effect.untouched_gate.Goals as goal
@@ -32,7 +30,8 @@ loop-pin-preserved c =
     let count : length pins ≡ c.length_of-pin.result = length-by-pin a.netlist.now value a.node ∙ sym c.length_of-pin.ensures in
     let l = c.loop-pin in
     let h : l.pin - 1 < length_of a.netlist.now a.node = omega (arith, l.invariant.0, c.loop-pin-test.true) in
-    let e = c.untouched_value-read.ensures ∙ sym (by-pin-at a.netlist.now value a.node (l.pin - 1) h) in
+    let read : c.untouched_value-read.result ≡ value (l.pin - 1) (source_of a.netlist.now a.node (l.pin - 1)) = assumption c.untouched_value-read.ensures in
+    let e = read ∙ sym (by-pin-at a.netlist.now value a.node (l.pin - 1) h) in
     let most : l.pin ≤ length pins = omega (arith, count, c.length_of-pin.ensures, l.invariant.0) in (
       omega (arith, h),
       rw (c.join_of-value.ensures, e, l.invariant.1) (function_more c.rule_of-rule.result.gate pins l.pin c.loop-pin-test.true most),

@@ -1,23 +1,11 @@
-use Rattle.trace.specs.Trace.{pin_touched, untouched_value, untouched_values}
-use Rattle.gates.specs.Kind.{function_of, gate}
-use Rattle.simulator.proofs.PinLaws.{function_none, function_more, length-by-pin, by-pin-at}
-use borrow.Author.Rules.{rules}
-use Prim.Native.Nat.{ℕ, ◌≤◌, ◌<◌, ◌-◌}
-use native.Mathlib.Omega.{arith}
-use mathlib.Core.List.{List}
-use mathlib.Core.Path.{◌≡◌, ◌∙◌, sym}
-use lib.ListN.{drop, length, take}
+use Rattle.trace.specs.Trace.{untouched_values}
+use Rattle.gates.specs.Kind.{function_of}
+use Prim.Native.Nat.{◌≤◌}
+use mathlib.Core.Path.{◌≡◌}
+use lib.ListN.{drop, take}
 use Rattle.netlist.specs.Netlist.{length_of, net_of}
-use Rattle.values.specs.Lists.{at, indexed}
+use Rattle.values.specs.Lists.{at}
 use Rattle.circuit.specs.Fault.{lines_in}
-use Rattle.std.proofs.Common.{◌≡◌, ◌&&◌, ◌++◌, [], ◌*◌, ◌+◌, ◌≤◌, drop, length, replicate, take, ℕ, ◌-◌, ◌<◌}
-use Rattle.circuit.specs.Fault.{lines_in, lines_of}
-use Rattle.gates.specs.Kind.{gate}
-use Rattle.values.specs.Lists.{at, every}
-use Rattle.netlist.specs.Netlist.{kind_of, net_of, source_of}
-use Rattle.knowledge.specs.Inner.Slice.{known_in}
-use Rattle.trace.specs.Trace.{effect_dies, gate_touched, latched_touched, latched_touched_list, latched_untouched, touched_list, node_touched, output_untouched, pin_touched, pins_touched, site_touched, some_touched, untouched_value, untouched_values}
-use Rattle.trace.specs.Inner.Tracing.{traced, tracing}
 use Rattle.trace.proofs.effect.untouched_gate.Given as goal
 
 abbrev pub invariant-loop-pin : goal.invariant-loop-pin
