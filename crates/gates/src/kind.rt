@@ -48,6 +48,7 @@ fn rule_with(least: u16, most: u16, gate: Gate, inverted: bool) -> Rule
 }
 
 // The rule of a kind. No pin count fits a number that is no kind.
+#[tactic(auto, using(crate::proofs::KindLaws::rule_one_pin, crate::proofs::KindLaws::rule_and, crate::proofs::KindLaws::rule_or, crate::proofs::KindLaws::rule_xor), unfolding(crate::specs::Kind::rule_of))]
 pub fn rule_of(kind: u8) -> Rule
     ensures { result ≡ rule_of kind }
 {

@@ -79,6 +79,7 @@ pub fn source_at(netlist: &[u8], place: u32, pin: u16) -> u16
 }
 
 // The source of a node's pin.
+#[tactic(auto, using(crate::proofs::NetlistLaws::source_place))]
 pub fn source_of(netlist: &[u8], node: u16, pin: u16) -> u16
     ensures { result ≡ source_of netlist.now node pin }
 {
@@ -86,6 +87,7 @@ pub fn source_of(netlist: &[u8], node: u16, pin: u16) -> u16
 }
 
 // Whether N and P are within their limits.
+#[tactic(auto, unfolding(crate::specs::Netlist::sizes_allowed))]
 fn sizes_allowed(n: u16, p: u16) -> bool
     ensures { result ≡ sizes_allowed n p }
 {
@@ -124,6 +126,7 @@ fn pairs_joined(netlist: &[u8], n: u16, p: u16) -> bool
 }
 
 // Whether a node has as many pins as its kind allows.
+#[tactic(auto, unfolding(crate::specs::Netlist::count_fits))]
 fn count_fits(netlist: &[u8], node: u16) -> bool
     ensures { result ≡ count_fits netlist.now node }
 {
@@ -158,6 +161,7 @@ fn source_limit(netlist: &[u8], n: u16, node: u16) -> u16
 }
 
 // Whether a pin names a source that it may name: besides the limit, no pin names an output.
+#[tactic(auto, unfolding(crate::specs::Netlist::source_allowed))]
 fn source_allowed(netlist: &[u8], n: u16, node: u16, pin: u16) -> bool
     requires { n ≡ node_count netlist.now }
     ensures { result ≡ source_allowed netlist.now node pin }
