@@ -3,7 +3,7 @@ use lib.Dec.{eqb}
 use Prim.Native.Nat.{ℕ, ◌*◌, ◌+◌}
 use mathlib.Core.Path.{◌≡◌, ◌∙◌, sym, ap, refl}
 use mathlib.Core.Bool.{true, false}
-use borrow.Author.Tests.{eq-eqb, ne_eqb}
+use borrow.Author.Tests.{ne_eqb}
 use Rattle.netlist.specs.Netlist.{net_of}
 use Rattle.values.specs.Lists.{at}
 use Rattle.circuit.specs.Fault.{lines_of}

@@ -7,7 +7,8 @@ use lib.Seq.{length-take-le}
 use mathlib.Core.Bool.{Bool, ◌&&◌, false, true}
 use mathlib.Core.List.{◌++◌}
 use mathlib.Core.Path.{◌∙◌, ◌≡◌, ap, refl, sym}
-use Prim.Native.Nat.{ℕ, ◌*◌, ◌+◌, ◌≤◌}
+use Prim.Native.Nat.{ℕ, ◌*◌, ◌+◌, ◌<◌, ◌≤◌}
+use native.Mathlib.Omega.{arith}
 use borrow.Author.Tests.{le-leb, leb-true, lt-leb}
 use Rattle.values.proofs.BoolLaws.{and_left, and_right}
 use Rattle.circuit.specs.Fault.{fault_exists}
@@ -19,7 +20,7 @@ use Rattle.certificate.specs.Certificate.{fault_of, frames_of, head_length, pair
 use Rattle.certificate.specs.Inner.Reading.{head_of}
 use Rattle.certificate.specs.declared.layout.Head.{Head}
 use Rattle.knowledge.specs.Window.{most_frames}
-use Rattle.checker.specs.Checker.{CheckerCall, checker_call, checker_tests, judged, window_size}
+use Rattle.checker.specs.Checker.{CheckerCall, checker_call, checker_tests, check_refused, judged, window_size}
 use Rattle.checker.proofs.Theorem.{answer_means}
 use Rattle.checker.proofs.VerdictLaws.{checking-judged, checking-refused, checking-unsound}
 use Rattle.checker.proofs.verdict.check.Goals as goal
@@ -66,15 +67,19 @@ module _ (q : CheckerCall) (n p : ℕ) (h : Head) (s : reading q.netlist ≡ sou
 pub returns-in_default-clause-second_after : goal.returns-in_default-clause-second_after
 returns-in_default-clause-second_after c =
     let a = c.args in
-    rw (c.refusal_number.ensures, c.in_default.is)
-    (sym (checking-unsound (checker_call a.netlist.now a.certificate.now a.first.now a.second.now) c.in_default.field-0 (sym c.in_default.ensures)))
+    let q = checker_call a.netlist.now a.certificate.now a.first.now a.second.now in
+    let k = c.in_default.field-0 in
+    let number : c.refusal_number.result ≡ k = rw c.refusal_number.ensures (rw c.in_default.is refl) in
+    let answer = ap (λ (x : ℕ). check_refused x q) number ∙ sym (checking-unsound q k (sym c.in_default.ensures)) in
+    assumption answer
 
 pub returns-then-not-layout_right-clause-second_after : goal.returns-then-not-layout_right-clause-second_after
 returns-then-not-layout_right-clause-second_after c =
     let a = c.args in
     let q = checker_call a.netlist.now a.certificate.now a.first.now a.second.now in
     let fails : Layout q ≡ false = sym c.layout_right.ensures ∙ c.if-not-layout_right.true in
-    sym (checking-refused q 8 (sym c.in-Sound.ensures) (fails_here fails refl))
+    let answer = sym (checking-refused q 8 (sym c.in-Sound.ensures) (fails_here fails refl)) in
+    assumption answer
 
 pub returns-then-not-fault_exists-clause-second_after : goal.returns-then-not-fault_exists-clause-second_after
 returns-then-not-fault_exists-clause-second_after c =
@@ -84,7 +89,8 @@ returns-then-not-fault_exists-clause-second_after c =
     let read = exists-read q c.in-Sound.n c.in-Sound.field-1 c.head_of-head.result s c.head_of-head.ensures in
     let p8 : Layout q ≡ true = sym c.layout_right.ensures ∙ c.if-not-layout_right.false in
     let fails : Exists q ≡ false = sym (c.fault_exists.ensures ∙ read) ∙ c.if-not-fault_exists.true in
-    sym (checking-refused q 9 s (fails_later p8 (fails_here fails refl)))
+    let answer = sym (checking-refused q 9 s (fails_later p8 (fails_here fails refl))) in
+    assumption answer
 
 pub returns-then-w-gt-MOST_FRAMES-clause-second_after : goal.returns-then-w-gt-MOST_FRAMES-clause-second_after
 returns-then-w-gt-MOST_FRAMES-clause-second_after c =
@@ -95,8 +101,10 @@ returns-then-w-gt-MOST_FRAMES-clause-second_after c =
     let frames = frames-read q c.in-Sound.n c.in-Sound.field-1 c.head_of-head.result s c.head_of-head.ensures in
     let p8 : Layout q ≡ true = sym c.layout_right.ensures ∙ c.if-not-layout_right.false in
     let p9 : Exists q ≡ true = sym (c.fault_exists.ensures ∙ exists) ∙ c.if-not-fault_exists.false in
-    let fails : Narrow q ≡ false = rw (← frames) (lt-leb _ _ c.if-w-gt-MOST_FRAMES.true) in
-    sym (checking-refused q 10 s (fails_later p8 (fails_later p9 (fails_here fails refl))))
+    let above : most_frames < c.head_of-head.result.c + c.head_of-head.result.f + 1 = omega arith in
+    let fails : Narrow q ≡ false = rw (← frames) (lt-leb _ _ above) in
+    let answer = sym (checking-refused q 10 s (fails_later p8 (fails_later p9 (fails_here fails refl)))) in
+    assumption answer
 
 pub returns-then-not-slices_fit-clause-second_after : goal.returns-then-not-slices_fit-clause-second_after
 returns-then-not-slices_fit-clause-second_after c =
@@ -108,9 +116,11 @@ returns-then-not-slices_fit-clause-second_after c =
     let fit = fit-read q c.in-Sound.n c.in-Sound.field-1 c.head_of-head.result s c.head_of-head.ensures in
     let p8 : Layout q ≡ true = sym c.layout_right.ensures ∙ c.if-not-layout_right.false in
     let p9 : Exists q ≡ true = sym (c.fault_exists.ensures ∙ exists) ∙ c.if-not-fault_exists.false in
-    let p10 : Narrow q ≡ true = rw (← frames) (le-leb _ _ c.if-w-gt-MOST_FRAMES.false) in
+    let at_most : c.head_of-head.result.c + c.head_of-head.result.f + 1 ≤ most_frames = omega arith in
+    let p10 : Narrow q ≡ true = rw (← frames) (le-leb _ _ at_most) in
     let fails : Fit q (window_size q) ≡ false = sym (c.slices_fit.ensures ∙ fit) ∙ c.if-not-slices_fit.true in
-    sym (checking-refused q 11 s (fails_later p8 (fails_later p9 (fails_later p10 (fails_here fails refl)))))
+    let answer = sym (checking-refused q 11 s (fails_later p8 (fails_later p9 (fails_later p10 (fails_here fails refl))))) in
+    assumption answer
 
 pub returns-then-not-split_within-clause-second_after : goal.returns-then-not-split_within-clause-second_after
 returns-then-not-split_within-clause-second_after c =
@@ -123,10 +133,12 @@ returns-then-not-split_within-clause-second_after c =
     let within = within-read q c.in-Sound.n c.in-Sound.field-1 c.head_of-head.result s c.head_of-head.ensures in
     let p8 : Layout q ≡ true = sym c.layout_right.ensures ∙ c.if-not-layout_right.false in
     let p9 : Exists q ≡ true = sym (c.fault_exists.ensures ∙ exists) ∙ c.if-not-fault_exists.false in
-    let p10 : Narrow q ≡ true = rw (← frames) (le-leb _ _ c.if-w-gt-MOST_FRAMES.false) in
+    let at_most : c.head_of-head.result.c + c.head_of-head.result.f + 1 ≤ most_frames = omega arith in
+    let p10 : Narrow q ≡ true = rw (← frames) (le-leb _ _ at_most) in
     let p11 : Fit q (window_size q) ≡ true = sym (c.slices_fit.ensures ∙ fit) ∙ c.if-not-slices_fit.false in
     let fails : Within q ≡ false = sym (c.split_within.ensures ∙ within) ∙ c.if-not-split_within.true in
-    sym (checking-refused q 13 s (fails_later p8 (fails_later p9 (fails_later p10 (fails_later p11 (fails_here fails refl))))))
+    let answer = sym (checking-refused q 13 s (fails_later p8 (fails_later p9 (fails_later p10 (fails_later p11 (fails_here fails refl)))))) in
+    assumption answer
 
 pub returns-clause-second_after : goal.returns-clause-second_after
 unfolding judged
@@ -141,7 +153,8 @@ returns-clause-second_after c =
     let w = window-read q n p h s r in
     let p8 : Layout q ≡ true = sym c.layout_right.ensures ∙ c.if-not-layout_right.false in
     let p9 : Exists q ≡ true = sym (c.fault_exists.ensures ∙ exists-read q n p h s r) ∙ c.if-not-fault_exists.false in
-    let p10 : Narrow q ≡ true = rw (← frames-read q n p h s r) (le-leb _ _ c.if-w-gt-MOST_FRAMES.false) in
+    let at_most : h.c + h.f + 1 ≤ most_frames = omega arith in
+    let p10 : Narrow q ≡ true = rw (← frames-read q n p h s r) (le-leb _ _ at_most) in
     let fit : Fit q (n * (h.c + h.f + 1)) ≡ true = sym c.slices_fit.ensures ∙ c.if-not-slices_fit.false in
     let p11 : Fit q (window_size q) ≡ true = sym (fit-read q n p h s r) ∙ fit in
     let p13 : Within q ≡ true = sym (c.split_within.ensures ∙ within-read q n p h s r) ∙ c.if-not-split_within.false in
