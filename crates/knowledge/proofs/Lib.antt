@@ -7,3 +7,4 @@ pub mod Monotone
 pub mod HybridRuns
 pub mod Model
 pub mod Conclusions
+pub mod PinRules

@@ -88,6 +88,7 @@ fn pin_conclusion(
 }
 
 // The source of a pin, 0 where the node has no such pin.
+#[tactic(auto, using(crate::proofs::PinRules::pin_laws))]
 pub fn pin_source(netlist: &[u8], node: u16, pin: u16) -> u16
     ensures { result ≡ at ((net_of netlist.now).pins node) pin }
 {

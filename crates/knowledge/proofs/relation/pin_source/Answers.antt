@@ -6,12 +6,6 @@ use lib.ListN.{get_or-eq_default, length}
 use Rattle.netlist.proofs.NetlistLaws.{pins-at, pins-length}
 use Rattle.knowledge.proofs.relation.pin_source.Goals as goal
 
-pub returns-then-pin-length_of : goal.returns-then-pin-length_of
-returns-then-pin-length_of c =
-    let a = c.args in
-    let h : a.pin < length_of a.netlist.now a.node = omega (arith, c.length_of.ensures) in
-    c.source_of.ensures ∙ sym (pins-at a.netlist.now a.node a.pin h)
-
 pub returns : goal.returns
 returns c =
     let a = c.args in
