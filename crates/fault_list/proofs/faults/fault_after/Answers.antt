@@ -1,4 +1,4 @@
-use Rattle.std.proofs.Common.{arith, ◌<◌}
+use Rattle.std.proofs.Common.{arith, rules, ◌≡◌, ◌<◌}
 use Rattle.fault_list.specs.Faults.{behind_site}
 use Rattle.netlist.specs.Netlist.{net_of}
 use Rattle.fault_list.proofs.WalkLaws.{named-few, first-named, next_behind}
@@ -13,4 +13,5 @@ returns-in-Whole c =
     let a = c.args in
     let net = net_of a.netlist.now in
     let h : a.fault.node < net.size = omega (arith, c.node_count.ensures, c.if-node_count-node.false) in
-    rw (next_behind net a.fault h c.if-fault-eq0.false, c.in-Whole.is, first-named, c.first_of.ensures)
+    let behind : (a.fault.stuck ≡ 0 → ⊥) = search rules in
+    rw (next_behind net a.fault h behind, c.in-Whole.is, first-named, c.first_of.ensures)
