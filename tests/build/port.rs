@@ -58,23 +58,30 @@ const LIES: Edit = Edit {
 /// A run that is named is not run again.
 const BELIEVES_RUNS: Edit = Edit {
     file: "search/trial.rt",
-    old: "if !hit.found {\n        return false;",
-    new: "if true {\n        return hit.found;",
+    old: "else {\n            return false;\n        };",
+    new: "else {\n            return false;\n        };\n        if true {\n            return true;\n        }",
 };
 
 /// A set that is proposed is not swept.
 const BELIEVES_PROPOSED: Edit = Edit {
     file: "search/notes.rt",
-    old:
-        "        return;\n    }\n    sweeps::note_open(netlist, fault, c, f, known, spare, noted);",
-    new: "        return;\n    }\n    splits::note_known(known, c, noted);",
+    old: "sweeps::note_open(
+                self.netlist,
+                self.fault,
+                split.c,
+                self.f,
+                known,
+                spare,
+                noted,
+            );",
+    new: "splits::note_known(known, split.c, noted);",
 };
 
 /// A set that is guessed is not swept.
 const BELIEVES_GUESSED: Edit = Edit {
     file: "search/notes.rt",
-    old: "known);\n    sweeps::note_open(netlist, fault, c, f, known, spare, noted);",
-    new: "known);\n    splits::note_known(known, c, noted);",
+    old: "sweeps::note_open(self.netlist, self.fault, c, self.f, known, spare, noted);",
+    new: "splits::note_known(known, c, noted);",
 };
 
 /// A guess may hold notes.
@@ -87,15 +94,16 @@ const BELIEVES_NOTES: Edit = Edit {
 /// A split for which no set is noted is not worked out.
 const BELIEVES_CLOSINGS: Edit = Edit {
     file: "search/branch.rt",
-    old: "if sweeps::both_close(netlist, fault, f, split, known, spare) {",
+    old: "if sweeps::both_close(self.netlist, self.fault, self.f, split, known, spare) {",
     new: "if true {",
 };
 
 /// A split that is worked out is counted.
 const COUNTED: Edit = Edit {
     file: "search/branch.rt",
-    old: "if sweeps::both_close(netlist, fault, f, split, known, spare) {",
-    new: "if crate::counts::count(sweeps::both_close(netlist, fault, f, split, known, spare)) {",
+    old: "if sweeps::both_close(self.netlist, self.fault, self.f, split, known, spare) {",
+    new: "let closes = sweeps::both_close(self.netlist, self.fault, self.f, split, known, spare);
+        if crate::counts::count(closes) {",
 };
 
 /// The copies that the tests call.
@@ -156,47 +164,47 @@ const MISTAKES: [Edit; 7] = [
     // A gate concludes the wrong value.
     Edit {
         file: "search/quick/relation.rt",
-        old: "let value = inverted_if(relation.inverted, value);",
-        new: "let value = inverted_if(relation.inverted ^ crate::mistakes::made(0), value);",
+        old: "let value = inverted_if(self.inverted, value);",
+        new: "let value = inverted_if(self.inverted ^ crate::mistakes::made(0), value);",
     },
     // A faulted line is as it would be without the fault.
     Edit {
         file: "search/quick/relation.rt",
-        old: "circuit: circuit_in(window, pins_at),",
+        old: "circuit: window.circuit_in(pins_at),",
         new: "circuit: match crate::mistakes::made(1) {
             true => Circuit::Good,
-            false => circuit_in(window, pins_at),
+            false => window.circuit_in(pins_at),
         },",
     },
     // Values that contradict the set stay in it.
     Edit {
         file: "search/quick/trail.rt",
-        old: "while start < left {",
-        new: "while start < left && !crate::mistakes::made(2) {",
+        old: "for number in (from..self.end).rev() {",
+        new: "for number in (from..self.end).rev().take_while(|_| !crate::mistakes::made(2)) {",
     },
     // The effect never dies.
     Edit {
         file: "search/quick/effect.rt",
-        old: "lives(netlist, window, fan, known, &mut flags)",
-        new: "crate::mistakes::made(3) || lives(netlist, window, fan, known, &mut flags)",
+        old: "effect.lives()",
+        new: "crate::mistakes::made(3) || effect.lives()",
     },
     // A node is missing in the lists of who reads whom.
     Edit {
         file: "search/quick/fan.rt",
-        old: "put_word(fan, place as usize, node);",
-        new: "put_word(fan, place as usize, if crate::mistakes::made(4) { 0 } else { node });",
+        old: "self.put_word(place as usize, node);",
+        new: "self.put_word(place as usize, if crate::mistakes::made(4) { 0 } else { node });",
     },
     // A run is named though none shows the fault.
     Edit {
         file: "search/quick/lanes.rt",
-        old: "found: false,",
-        new: "found: crate::mistakes::made(5),",
+        old: "        None\n",
+        new: "        crate::mistakes::made(5).then_some(0)\n",
     },
     // A set is proposed where both branches seem to close.
     Edit {
         file: "search/quick/extend.rt",
-        old: "if !either_open(",
-        new: "if !crate::mistakes::made(6) && !either_open(",
+        old: "if !self.either_open(",
+        new: "if !crate::mistakes::made(6) && !self.either_open(",
     },
 ];
 
@@ -295,7 +303,7 @@ fn translate(krate: &Crate, sources: &Sources, file: &str) -> String {
     let source = source.unwrap_or_else(|| panic!("there is no {file}.rt"));
     let folder = file.strip_suffix("/lib").unwrap_or(file);
     let mut text = krate.uses.clone();
-    for line in source.lines().filter(|line| !is_promise(line, file)) {
+    for line in code_of(source, file) {
         match module_named(line) {
             Some(module) => {
                 let body = translate(krate, sources, &format!("{folder}/{module}"));
@@ -307,17 +315,53 @@ fn translate(krate: &Crate, sources: &Sources, file: &str) -> String {
     text
 }
 
-/// Whether a line is for the prover alone. Each of its contracts, imports and
-/// hints is on one line.
-fn is_promise(line: &str, file: &str) -> bool {
-    let line = line.trim();
-    let clause = line.starts_with("requires ") || line.starts_with("ensures ");
-    let names = line.starts_with("ghost use ");
-    let hint = line.starts_with("#[tactic(") || line.starts_with("#![tactic(");
-    assert!(!clause || line.ends_with('}'), "{file}: {line}");
-    assert!(!names || line.ends_with(';'), "{file}: {line}");
-    assert!(!hint || line.ends_with(")]"), "{file}: {line}");
-    clause || names || hint
+/// The words with which a clause of a function's contract begins.
+const CLAUSES: [&str; 2] = ["requires ", "ensures "];
+
+/// Those with which begins what else is for the prover alone: ghost members and
+/// fields, imports, and hints.
+const OTHER_PROMISES: [&str; 3] = ["ghost ", "#[tactic(", "#![tactic("];
+
+/// The lines of a source but for those that are for the prover alone. What is for
+/// it begins with a line of its own, and ends with the line on which all brackets
+/// are closed that it has opened.
+fn code_of<'a>(source: &'a str, file: &str) -> Vec<&'a str> {
+    let mut code = Vec::new();
+    let mut lines = source.lines();
+    while let Some(line) = lines.next() {
+        let is_clause = begins_with_one(line, &CLAUSES);
+        if !is_clause && !begins_with_one(line, &OTHER_PROMISES) {
+            code.push(line);
+            continue;
+        }
+        let mut last = line;
+        let mut open = brackets_left_open(line);
+        while open > 0 {
+            last = lines.next().unwrap_or_else(|| panic!("{file}: {line}"));
+            open += brackets_left_open(last);
+        }
+        let ends = ["}", ";", ",", ")]"].iter().any(|end| last.ends_with(end));
+        assert!(open == 0 && ends, "{file}: {line}");
+        // a trait's method without a body ends behind its last clause
+        if is_clause && last.ends_with(';') {
+            code.push(";");
+        }
+    }
+    code
+}
+
+fn begins_with_one(line: &str, words: &[&str]) -> bool {
+    words.iter().any(|word| line.trim_start().starts_with(word))
+}
+
+/// How many more brackets a line opens than it closes.
+fn brackets_left_open(line: &str) -> isize {
+    let sides = line.chars().map(|letter| match letter {
+        '(' | '[' | '{' => 1,
+        ')' | ']' | '}' => -1,
+        _ => 0,
+    });
+    sides.sum()
 }
 
 /// The module that a line names, if it does.
@@ -325,10 +369,22 @@ fn module_named(line: &str) -> Option<&str> {
     line.strip_prefix("mod ")?.strip_suffix(';')
 }
 
-/// A line as Rust: the crate is a module.
+/// A line as Rust: the crate is a module, and a value may be dropped without a
+/// derive that says so.
 fn as_rust(path: &str, line: &str) -> String {
-    match line.strip_prefix("use crate::") {
-        Some(item) => format!("use {path}::{item}\n"),
-        None => format!("{line}\n"),
+    match (line.strip_prefix("use crate::"), traits_derived(line)) {
+        (Some(item), _) => format!("use {path}::{item}\n"),
+        (_, Some(traits)) => format!("#[derive({})]\n", without_drop(traits)),
+        _ => format!("{line}\n"),
     }
+}
+
+/// The traits that a line derives, if it does.
+fn traits_derived(line: &str) -> Option<&str> {
+    line.trim().strip_prefix("#[derive(")?.strip_suffix(")]")
+}
+
+fn without_drop(traits: &str) -> String {
+    let traits = traits.split(", ").filter(|name| *name != "Drop");
+    traits.collect::<Vec<&str>>().join(", ")
 }

@@ -120,6 +120,13 @@ pub struct Rule<'a> {
 
 const LENGTH: usize = 7;
 
+pub trait Joined {
+    ghost spoken: { Self → ℕ };
+
+    fn joined(&self) -> u8
+        ensures { result ≡ spoken self.now };
+}
+
 impl Rule {
     #[tactic(auto, using(crate::proofs::Laws::used))]
     pub(crate) fn next(self) -> Rule
@@ -213,8 +220,8 @@ fn names_are_looked_for_where_they_are_defined() {
     assert_names(
         "src/code.rt",
         &[
-            "inner", "Reading", "Sound", "Refused", "Rule", "least", "most", "LENGTH", "next",
-            "exported",
+            "inner", "Reading", "Sound", "Refused", "Rule", "least", "most", "LENGTH", "Joined",
+            "joined", "next", "exported",
         ],
         &[
             "imported",

@@ -5,6 +5,7 @@
 
 ghost use Rattle.std.specs.Prelude.{◌⊎◌, ◌≡◌, ℕ, ◌*◌, ◌+◌, ◌<◌, take};
 ghost use Rattle.netlist.specs.Answer.{number_of, refused};
+ghost use Rattle.netlist.specs.Refusal.{number_of_refusal};
 ghost use Rattle.netlist.specs.Netlist.{reading, reading_says};
 ghost use Rattle.simulator.specs.Clock.{simulator_call, simulation, stepped_says};
 ghost use Rattle.capi.specs.Numbers.{check_number, circuit_of, find_number, numbered_finder, numbered_by, numbered_finding, numbered_outcome, read_number, site_fault};
@@ -15,19 +16,16 @@ ghost use Rattle.search.specs.FinderCall.{finder_call};
 ghost use Rattle.finder.specs.Finder.{finding, finding_says, found, nothing_found};
 ghost use Rattle.finder.specs.Marks.{IsMark, NoneCloses};
 
-use checker::Checked;
-use circuit::{Circuit, Fault};
-use finder::Finding;
-use netlist::Reading;
-use simulator::Stepped;
+use circuit::{Circuit, Fault, Site};
+use finder::Mark;
+use netlist::{Refusal, Size};
 
 fn fault_of(node: u16, site: u8, u: u8) -> Fault
     ensures { result ≡ site_fault node site u }
 {
-    let place = circuit::site_of(site);
     Fault {
         node,
-        site: place,
+        site: Site::from(site),
         stuck: u,
     }
 }
@@ -41,43 +39,50 @@ fn circuit_of(faulted: u8, node: u16, site: u8, u: u8) -> Circuit
     Circuit::Faulty(fault_of(node, site, u))
 }
 
-fn number_of_reading(answer: Reading) -> u64
+// The numbers of answers. They are no From: neither an answer nor a number is a type of this crate.
+fn number_of_refusal(refusal: Refusal) -> u64
+    ensures { result ≡ number_of_refusal refusal }
+{
+    u8::from(refusal) as u64
+}
+
+fn number_of_reading(answer: Result<Size, Refusal>) -> u64
     ensures { result ≡ read_number (reading_says answer) }
 {
     match answer {
-        Reading::Sound(n, p) => 4294967296 + 65536 * (n as u64) + p as u64,
-        Reading::Refused(number) => number as u64,
+        Ok(size) => 4294967296 + 65536 * (size.nodes as u64) + size.pins as u64,
+        Err(refusal) => number_of_refusal(refusal),
     }
 }
 
-fn number_of_step(answer: Stepped) -> u64
+fn number_of_step(answer: Result<(), Refusal>) -> u64
     ensures { result ≡ number_of (stepped_says answer) }
 {
     match answer {
-        Stepped::Done => 0,
-        Stepped::Refused(number) => number as u64,
+        Ok(()) => 0,
+        Err(refusal) => number_of_refusal(refusal),
     }
 }
 
-fn number_of_check(answer: Checked) -> u64
+fn number_of_check(answer: Result<u8, Refusal>) -> u64
     ensures value { result ≡ check_number (checked_says answer) }
     ensures means_accepted { (c : ℕ) → result ≡ 4294967296 + c → checked_says answer ≡ accepted c }
 {
     match answer {
-        Checked::Accepted(c) => 4294967296 + c as u64,
-        Checked::Refused(number) => number as u64,
+        Ok(c) => 4294967296 + c as u64,
+        Err(refusal) => number_of_refusal(refusal),
     }
 }
 
-fn number_of_finding(answer: Finding) -> u64
+fn number_of_finding(answer: Result<Option<Mark>, Refusal>) -> u64
     ensures value { result ≡ find_number (finding_says answer) }
     ensures means_found { (c l : ℕ) → l < 4294967296 → result ≡ 4294967296 * (c + 1) + l → (k : ℕ) × (finding_says answer ≡ found c l k) }
     ensures means_none { result ≡ 0 → (finding_says answer ≡ nothing_found) ⊎ (finding_says answer ≡ refused 0) }
 {
     match answer {
-        Finding::Found(c, length, _) => 4294967296 * (c as u64 + 1) + length as u64,
-        Finding::None => 0,
-        Finding::Refused(number) => number as u64,
+        Ok(Some(mark)) => 4294967296 * (mark.c as u64 + 1) + mark.length as u64,
+        Ok(None) => 0,
+        Err(refusal) => number_of_refusal(refusal),
     }
 }
 

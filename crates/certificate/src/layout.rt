@@ -4,7 +4,7 @@ ghost use Rattle.certificate.specs.Certificate.{head_length, pairs_right, run_le
 ghost use Rattle.certificate.specs.Inner.Reading.{head_of};
 
 use crate::step::STEP_LENGTH;
-use circuit::Fault;
+use circuit::{Fault, Site};
 
 // The length of what stands before the steps.
 pub const HEAD_LENGTH: usize = 25;
@@ -25,7 +25,7 @@ pub struct Head {
 pub fn head_of(certificate: &[u8]) -> Head
     ensures { result ≡ head_of certificate.now }
 {
-    let site = circuit::site_of(values::byte_at(certificate, 2));
+    let site = Site::from(values::byte_at(certificate, 2));
     let fault = Fault {
         node: values::u16_at(certificate, 0),
         site,

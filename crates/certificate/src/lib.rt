@@ -9,7 +9,7 @@ mod step;
 mod writer;
 
 pub use layout::{HEAD_LENGTH, Head, head_of, layout_right, run_length, run_offset};
-pub use reader::{NextStep, read_step};
-pub use room::slices_refusal;
+pub use reader::{StepReader, steps};
+pub use room::check_slices;
 pub use step::{STEP_LENGTH, Step};
 pub use writer::{put_step, write_head};

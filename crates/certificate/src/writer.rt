@@ -35,9 +35,8 @@ fn write_named(certificate: &mut [u8], head: Head)
     ensures { certificate.new ≡ sets certificate.old 0 (named_bytes head) }
 {
     let fault = head.fault;
-    let site = fault.site;
     put_u16(certificate, 0, fault.node);
-    store(certificate, 2, circuit::site_byte(site));
+    store(certificate, 2, u8::from(fault.site));
     store(certificate, 3, fault.stuck);
     store(certificate, 4, head.c);
     store(certificate, 5, head.f);

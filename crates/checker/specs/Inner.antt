@@ -1,2 +1,3 @@
 -- What only the contracts of functions speak of that are no tool of 01: those between crates, and inner ones.
 pub mod Judgement
+pub mod Within

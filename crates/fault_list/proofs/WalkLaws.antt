@@ -2,12 +2,12 @@
 use mathlib.Core.Bool.{true}
 use mathlib.Core.List.{List, [], ◌∷◌}
 use mathlib.Core.Path.{◌≡◌, ap, refl}
-use Prim.Native.Nat.{◌+◌, ◌<◌, ◌≤◌, suc, zero, ℕ}
+use Prim.Native.Nat.{min, ◌+◌, ◌<◌, ◌≤◌, suc, zero, ℕ}
 use native.Mathlib.Omega.{arith}
 use borrow.Author.Tests.{leb-true, lt-ltb}
 use lib.Dec.{leb}
 use lib.ListN.{length, length-take, take}
-use lib.Seq.{length-take-le, take_all}
+use lib.Seq.{take_all}
 use Rattle.values.proofs.ListLaws.{every-at}
 use Rattle.gates.specs.Kind.{rule_of}
 use Rattle.values.specs.Lists.{every}
@@ -28,9 +28,9 @@ module _ (net : Net) where
   unfolding named
   named-same n h = ap length (take_all pin_numbers (net.pins n) h)
 
-  pub named_cut : (n : ℕ) → pin_numbers ≤ length (net.pins n) → length ((named net).pins n) ≡ pin_numbers
+  pub named_count : (n count : ℕ) → count ≡ length (net.pins n) → min count pin_numbers ≡ length ((named net).pins n)
   unfolding named
-  named_cut n h = length-take-le pin_numbers (net.pins n) h
+  named_count n count e = simp length-take (omega arith)
 
   pub named-few : (n : ℕ) → length ((named net).pins n) ≤ pin_numbers
   unfolding named

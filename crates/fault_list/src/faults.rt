@@ -34,12 +34,7 @@ fn site_after(count: u16, pin: u8) -> Site
 fn named_pins(netlist: &[u8], node: u16) -> u16
     ensures { result ≡ length ((named (net_of netlist.now)).pins node) }
 {
-    let count = netlist::length_of(netlist, node);
-    if count < PIN_NUMBERS {
-        count
-    } else {
-        PIN_NUMBERS
-    }
+    netlist::length_of(netlist, node).min(PIN_NUMBERS)
 }
 
 // The first fault of a node.

@@ -17,8 +17,8 @@ fn store_behind(out: &mut [u8], place: usize, offset: usize, value: u8)
 // Writes a number in decimal, from a place on, and says how long it is.
 #[tactic(auto, using(crate::proofs::TextLaws::decimal_one))]
 pub fn put_decimal(out: &mut [u8], place: usize, number: u32) -> usize
-    ensures out_after { put result out.new ≡ put_at out.old place (decimal number) }
-    ensures upper_bound { result ≤ number_length }
+    ensures text_put { put result out.new ≡ put_at out.old place (decimal number) }
+    ensures at_most { result ≤ number_length }
 {
     if number < 10 {
         values::store(out, place, 48 + number as u8);
@@ -31,8 +31,8 @@ pub fn put_decimal(out: &mut [u8], place: usize, number: u32) -> usize
 
 // Writes a number and the byte after it, and says how long they are.
 pub fn put_field(out: &mut [u8], place: usize, number: u32, after: u8) -> usize
-    ensures out_after { put result out.new ≡ put_at out.old place (field number after) }
-    ensures upper_bound { result ≤ field_length }
+    ensures text_put { put result out.new ≡ put_at out.old place (field number after) }
+    ensures at_most { result ≤ field_length }
 {
     let length = put_decimal(out, place, number);
     store_behind(out, place, length, after);
@@ -40,14 +40,12 @@ pub fn put_field(out: &mut [u8], place: usize, number: u32, after: u8) -> usize
 }
 
 // Writes some text, and says how long it is.
-#[tactic(auto, using(crate::proofs::TextLaws::text_more))]
+#[tactic(auto, using(crate::proofs::TextLaws::put_within, crate::proofs::TextLaws::put_past))]
 pub fn put_text(out: &mut [u8], place: usize, text: &[u8]) -> usize
     ensures { put result out.new ≡ put_at out.old place text.now }
 {
-    let mut i: usize = 0;
-    while i < text.len() {
-        store_behind(out, place, i, text[i]);
-        i += 1;
+    if place < out.len() {
+        values::copy(text, &mut out[place..]);
     }
     text.len()
 }

@@ -1,4 +1,7 @@
 -- The finder's outcome by that of the search: a refusal and none are answered as they are, and for a split its certificate is written.
+use Rattle.std.specs.Prelude.{None, Ok, Some}
+use Rattle.std.specs.Prelude as code
+use Rattle.sweeps.proofs.PartLaws.{certificate-length}
 use mathlib.Core.Bool.{◌&&◌, false, true}
 use mathlib.Core.List.{List, ◌++◌, ◌∷◌}
 use mathlib.Core.Option.{Option, none, some}
@@ -19,13 +22,12 @@ use Rattle.search.proofs.SearchLaws.{answered-split}
 use Rattle.search.proofs.TestLaws.{window-size}
 use Rattle.search.specs.FinderCall.{FinderCall, finder_call, finder_tests, frames, largest_window}
 use Rattle.search.specs.FirstSplit.{first_split}
-use Rattle.search.specs.Inner.Search.{SearchOutcome, at_split, search_made, search_outcome, searching, unsearched}
+use Rattle.search.specs.Inner.Search.{SearchOutcome, Searched, at_split, no_split, search_made, search_outcome, searched_says, searching, split_at, turned_back, unsearched}
 use Rattle.sweeps.proofs.KeptLaws.{certificate_says}
 use Rattle.sweeps.proofs.StandsLaws.{window-few}
 use Rattle.sweeps.specs.Inner.Trials.{certified, certifying}
 use Rattle.sweeps.specs.Splits.{certificate_for, step_count}
 use Rattle.certificate.specs.Written.{written}
-use Rattle.search.specs.declared.answer.Searched.{Searched}
 use Rattle.splits.specs.declared.split.Split.{Split}
 use Rattle.finder.specs.Finder.{FinderOutcome, answer_for, bytes_for, finder_outcome, finding, found, nothing_found, searched, find_refused}
 use Rattle.knowledge.specs.Window.{most_frames}
@@ -38,11 +40,11 @@ module _ (a : FinderCall) where
 
   -- what becomes of an answer of the search, with v and w in the work slices
   abbrev pub answered_by : List ℕ → List ℕ → Searched → FinderOutcome
-  answered_by v w (Searched.At s) =
+  answered_by v w (split_at s) =
       let net = net_of a.netlist in
       finder_outcome (found s.c (length (certificate_for net a.fault a.f s)) (step_count net a.fault a.f s)) v w (written (certificate_for net a.fault a.f s) a.certificate)
-  answered_by v w Searched.None = finder_outcome nothing_found v w a.certificate
-  answered_by v w (Searched.Refused k) = finder_outcome (refused k) v w a.certificate
+  answered_by v w no_split = finder_outcome nothing_found v w a.certificate
+  answered_by v w (turned_back k) = finder_outcome (refused k) v w a.certificate
 
   abbrev pub finished : SearchOutcome → FinderOutcome
   finished o = answered_by o.first o.second o.answer
@@ -100,6 +102,14 @@ module _ (a : FinderCall) where
   pub search_answers : {r : Searched} {v w : List ℕ} (s : Searched) → search_outcome r v w ≡ searching search_call → r ≡ s → answered_by v w s ≡ finding a
   search_answers {r} {v} {w} s e q = sym (finding-finished ∙ ap finished (sym e) ∙ ap (answered_by v w) q)
 
+-- the cases of the search's answer, where it is no refusal
+pub none_found : {r : code.Option Split} {v w : List ℕ} {o : SearchOutcome} → search_outcome (searched_says (Ok r)) v w ≡ o → r ≡ None → search_outcome no_split v w ≡ o
+none_found {v = v} {w = w} e q = ap (λ (r : code.Option Split). search_outcome (searched_says (Ok r)) v w) (sym q) ∙ e
+
+pub split_found : {r : code.Option Split} {v w : List ℕ} {o : SearchOutcome} {s : Split} → search_outcome (searched_says (Ok r)) v w ≡ o → r ≡ Some s
+    → search_outcome (split_at s) v w ≡ o
+split_found {v = v} {w = w} e q = ap (λ (r : code.Option Split). search_outcome (searched_says (Ok r)) v w) (sym q) ∙ e
+
 -- What the writing of a certificate asks for, where the search has answered a split, with n nodes and v in the first slice.
 pub record SplitReady (a : FinderCall) (s : Split) (v : List ℕ) (n : ℕ) : Type 0 where
   pub sound_netlist : reading a.netlist ≡ sound n (pin_count a.netlist)
@@ -114,7 +124,7 @@ pub record SplitReady (a : FinderCall) (s : Split) (v : List ℕ) (n : ℕ) : Ty
   pub first_cleared : v ≡ cleared (largest_window a) a.first
 
 pub split-ready : (a : FinderCall) (s : Split) (v w : List ℕ) (n : ℕ) → n ≡ node_count a.netlist
-    → search_outcome (Searched.At s) v w ≡ searching (search_call a) → SplitReady a s v n
+    → search_outcome (split_at s) v w ≡ searching (search_call a) → SplitReady a s v n
 split-ready a s v w n q e =
     let f = answered-split (search_call a) s v w e in
     let r : reading a.netlist ≡ sound n (pin_count a.netlist) = f.sound_netlist ∙ ap (λ (x : ℕ). sound x (pin_count a.netlist)) (sym q) in
@@ -174,3 +184,13 @@ written_says a s v n y r k x e =
       said.2,
       (λ i. clear i ++ drop (n * W) (y.first_cleared i)) ∙ cleared-again (n * W) (largest_window a) a.first y.part ∙ sym y.first_cleared,
     )
+
+-- so the outcome is the finder's, where the search has answered a split
+pub mark_made : (a : FinderCall) (s : Split) (v w : List ℕ) (n : ℕ) → SplitReady a s v n → (r : ℕ) (k x : List ℕ)
+    → certified r k x ≡ certifying a.netlist a.fault a.f s (take (n * (s.c + a.f + 1)) v) a.certificate
+    → search_outcome (split_at s) v w ≡ searching (search_call a)
+    → finder_outcome (found s.c (head_length + 7 * r) r) (k ++ drop (n * (s.c + a.f + 1)) v) w x ≡ finding a
+mark_made a s v w n ready r k x e answer =
+    let said = written_says a s v n ready r k x e in
+    let long = ap (λ (m : ℕ). head_length + 7 * m) said.0 ∙ sym (certificate-length (net_of a.netlist) a.fault a.f s) in
+    (λ j. finder_outcome (found s.c (long j) (said.0 j)) (said.3 j) w (said.2 j)) ∙ search_answers a (split_at s) answer refl

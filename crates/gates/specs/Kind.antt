@@ -1,9 +1,12 @@
 -- 01, "Kind", with the pin limit of 02, request 1: what each kind number decides. Pin limits and gate functions stand here, once.
-use Rattle.std.specs.Prelude.{Bool, ◌||◌, false, true, List, [], ◌∷◌, ℕ, eqb, leb, get_or}
+use Rattle.std.specs.Prelude.{Bool, ◌||◌, false, true, List, [], ◌∷◌, Result, Ok, Err, map, ℕ, eqb, leb, get_or}
 use Rattle.gates.specs.Value.{and₂, neg, or₂, xor₂}
 use Rattle.gates.specs.declared.kind.Gate.{Gate}
 use Rattle.gates.specs.declared.kind.Gate.TheVariants.{And, Or, Wire, Xor}
+use Rattle.gates.specs.declared.kind.Kind.{Kind}
+use Rattle.gates.specs.declared.kind.Kind.TheVariants as kind
 use Rattle.gates.specs.declared.kind.Rule.{Rule}
+use Rattle.gates.specs.declared.kind.UnknownKind.{UnknownKind}
 
 -- the most pins of an AND, NAND, OR or NOR
 abbrev pub most_pins : ℕ
@@ -12,6 +15,29 @@ most_pins = 64
 -- the greatest kind number
 abbrev pub last_kind : ℕ
 last_kind = 10
+
+-- the kinds, in the order of their numbers from 0 on
+abbrev pub kinds : List Kind
+kinds =
+    kind.Input ∷ kind.Output ∷ kind.FlipFlop ∷ kind.Buffer ∷ kind.Not ∷ kind.And ∷ kind.Nand ∷ kind.Or ∷ kind.Nor ∷ kind.Xor ∷ kind.Xnor ∷ []
+
+-- the kind that a number names, or that it names none
+unfoldable pub kind_named : ℕ → Result Kind UnknownKind
+kind_named k = get_or (map Ok kinds) k (Err (record { 0 = k }))
+
+-- the number of a kind
+abbrev pub number_of : Kind → ℕ
+number_of kind.Input = 0
+number_of kind.Output = 1
+number_of kind.FlipFlop = 2
+number_of kind.Buffer = 3
+number_of kind.Not = 4
+number_of kind.And = 5
+number_of kind.Nand = 6
+number_of kind.Or = 7
+number_of kind.Nor = 8
+number_of kind.Xor = 9
+number_of kind.Xnor = 10
 
 abbrev pub rule : ℕ → ℕ → Gate → Bool → Rule
 rule l m g i = record { least = l; most = m; gate = g; inverted = i }

@@ -1,25 +1,37 @@
-// What a kind number decides: how many pins a node has, and what it makes of their values.
+// What a node's kind decides: how many pins a node has, and what it makes of their values.
 ghost use Rattle.std.specs.Prelude.{◌≡◌};
-ghost use Rattle.gates.specs.Kind.{rule, rule_of, unit_of, join_of, controlling, inverted_if, is_given};
+ghost use Rattle.gates.specs.Kind.{rule_of, kind_named, number_of, unit_of, join_of, controlling, inverted_if, is_given};
 ghost use Rattle.gates.specs.Value.{differ, neg, and₂, or₂, xor₂};
 
 // The most pins of an AND, NAND, OR or NOR.
 const MOST_PINS: u16 = 64;
 
-// The greatest kind number.
-pub const LAST_KIND: u8 = 10;
-
-pub const INPUT: u8 = 0;
-
-pub const OUTPUT: u8 = 1;
-
-pub const FLIP_FLOP: u8 = 2;
-
-// A value that is neither 0 nor 1 is unknown; this one stands for it.
+// A value that is neither 0 nor 1 is unknown; this one stands for it. Values are bytes, since they lie in
+// the caller's slices, where any byte may stand.
 pub const UNKNOWN: u8 = 2;
 
+// What a node is. A kind's number is its place here, counted from 0.
+#[derive(Clone, Copy, Debug, PartialEq, Eq)]
+pub enum Kind {
+    Input,
+    Output,
+    FlipFlop,
+    Buffer,
+    Not,
+    And,
+    Nand,
+    Or,
+    Nor,
+    Xor,
+    Xnor,
+}
+
+// A number that is no kind's.
+#[derive(Clone, Copy, Debug, PartialEq, Eq)]
+pub struct UnknownKind(pub u8);
+
 // The function of a node's pins. A wire hands on the value of its only pin.
-#[derive(Clone, Copy)]
+#[derive(Clone, Copy, Debug, PartialEq, Eq)]
 pub enum Gate {
     Wire,
     And,
@@ -28,7 +40,7 @@ pub enum Gate {
 }
 
 // The fewest and the most pins, the function of the pins, and whether its value is inverted.
-#[derive(Clone, Copy)]
+#[derive(Clone, Copy, Debug, PartialEq, Eq)]
 pub struct Rule {
     pub least: u16,
     pub most: u16,
@@ -36,9 +48,54 @@ pub struct Rule {
     pub inverted: bool,
 }
 
-fn rule_with(least: u16, most: u16, gate: Gate, inverted: bool) -> Rule
-    ensures { result ≡ rule least most gate inverted }
+// The kind that a number names.
+impl TryFrom<u8> for Kind {
+    type Error = UnknownKind;
+
+    ghost try_from_gives = { λ number r. r ≡ kind_named number };
+
+    #[tactic(auto, using(crate::proofs::KindLaws::named_none), unfolding(crate::specs::Kind::kind_named))]
+    fn try_from(number: u8) -> Result<Self, UnknownKind> {
+        match number {
+            0 => Ok(Kind::Input),
+            1 => Ok(Kind::Output),
+            2 => Ok(Kind::FlipFlop),
+            3 => Ok(Kind::Buffer),
+            4 => Ok(Kind::Not),
+            5 => Ok(Kind::And),
+            6 => Ok(Kind::Nand),
+            7 => Ok(Kind::Or),
+            8 => Ok(Kind::Nor),
+            9 => Ok(Kind::Xor),
+            10 => Ok(Kind::Xnor),
+            _ => Err(UnknownKind(number)),
+        }
+    }
+}
+
+// The number of a kind.
+impl From<Kind> for u8 {
+    ghost from_gives = { λ kind number. number ≡ number_of kind };
+
+    fn from(kind: Kind) -> u8 {
+        kind as u8
+    }
+}
+
+// The rule of a kind number: how many pins a node of the kind has, and what it makes of their values. No pin
+// count fits a number that is no kind's. One match over numbers with ranges, as document 01 asks.
+#[tactic(auto, using(crate::proofs::KindLaws::rule_one_pin, crate::proofs::KindLaws::rule_and, crate::proofs::KindLaws::rule_or, crate::proofs::KindLaws::rule_xor), unfolding(crate::specs::Kind::rule_of))]
+pub fn rule_of(number: u8) -> Rule
+    ensures { result ≡ rule_of number }
 {
+    let (least, most, gate, inverted) = match number {
+        0 => (0, 0, Gate::Wire, false),
+        1..=4 => (1, 1, Gate::Wire, number == 4),
+        5..=6 => (2, MOST_PINS, Gate::And, number == 6),
+        7..=8 => (2, MOST_PINS, Gate::Or, number == 8),
+        9..=10 => (2, 2, Gate::Xor, number == 10),
+        _ => (1, 0, Gate::Wire, false),
+    };
     Rule {
         least,
         most,
@@ -47,26 +104,13 @@ fn rule_with(least: u16, most: u16, gate: Gate, inverted: bool) -> Rule
     }
 }
 
-// The rule of a kind. No pin count fits a number that is no kind.
-#[tactic(auto, using(crate::proofs::KindLaws::rule_one_pin, crate::proofs::KindLaws::rule_and, crate::proofs::KindLaws::rule_or, crate::proofs::KindLaws::rule_xor), unfolding(crate::specs::Kind::rule_of))]
-pub fn rule_of(kind: u8) -> Rule
-    ensures { result ≡ rule_of kind }
-{
-    match kind {
-        0 => rule_with(0, 0, Gate::Wire, false),
-        1..=4 => rule_with(1, 1, Gate::Wire, kind == 4),
-        5..=6 => rule_with(2, MOST_PINS, Gate::And, kind == 6),
-        7..=8 => rule_with(2, MOST_PINS, Gate::Or, kind == 8),
-        9..=10 => rule_with(2, 2, Gate::Xor, kind == 10),
-        _ => rule_with(1, 0, Gate::Wire, false),
+impl Kind {
+    // The clock step is given the value of such a node: an input, or a flip-flop's latched value.
+    pub fn is_given(self) -> bool
+        ensures { result ≡ is_given (number_of self) }
+    {
+        self == Kind::Input || self == Kind::FlipFlop
     }
-}
-
-// The clock step is given the value of such a node: an input, or a flip-flop's latched value.
-pub fn is_given(kind: u8) -> bool
-    ensures { result ≡ is_given kind }
-{
-    kind == INPUT || kind == FLIP_FLOP
 }
 
 // The opposite of a value; of an unknown one, unknown.

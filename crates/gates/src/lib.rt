@@ -1,9 +1,9 @@
-// The values of a line, 0, 1 and unknown; what gates make of them; and what a kind number decides.
+// The values of a line, 0, 1 and unknown; what gates make of them; and what a kind decides.
 #![tactic(auto)]
 
 mod kind;
 
 pub use kind::{
-    FLIP_FLOP, Gate, INPUT, LAST_KIND, OUTPUT, Rule, UNKNOWN, controlling_value, inverted_if,
-    is_given, join_of, negation, rule_of, unit_of, values_differ,
+    Gate, Kind, Rule, UNKNOWN, UnknownKind, controlling_value, inverted_if, join_of, negation,
+    rule_of, unit_of, values_differ,
 };

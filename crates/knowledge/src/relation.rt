@@ -1,15 +1,18 @@
 // The relation of a node at a frame, and what it concludes of its lines.
-ghost use Rattle.std.specs.Prelude.{◌≡◌};
-ghost use Rattle.circuit.specs.Fault.{lines_in, lines_of};
+ghost use Rattle.std.specs.Prelude.{◌≡◌, not, set};
+ghost use Rattle.circuit.specs.Fault.{lines_in, lines_of, stuck_value};
+ghost use Rattle.gates.specs.Kind.{gate};
+ghost use Rattle.gates.specs.Value.{differ, is_unknown};
+ghost use Rattle.simulator.specs.Clock.{pin_values};
 ghost use Rattle.values.specs.Lists.{at};
-ghost use Rattle.netlist.specs.Netlist.{net_of};
+ghost use Rattle.netlist.specs.Netlist.{kind_of, net_of};
 ghost use Rattle.knowledge.specs.Window.{present_below, has_relation, pin_frame, pin_conclusion, in_force, conclusion};
 ghost use Rattle.knowledge.specs.Inner.Slice.{known_in};
 
 use crate::window::place_of;
 use certificate::Step;
-use circuit::{Circuit, Fault, NOT_STUCK};
-use gates::{FLIP_FLOP, INPUT, UNKNOWN};
+use circuit::{Circuit, Fault};
+use gates::{Kind, UNKNOWN};
 
 // The fault is present in frames below c, and absent from c on.
 #[tactic(auto, using(crate::proofs::RelationLaws::present_below_lem, crate::proofs::RelationLaws::absent_from), unfolding(circuit::specs::Fault::lines_in))]
@@ -23,11 +26,11 @@ fn circuit_in(fault: Fault, c: u8, frame: u8) -> Circuit
     }
 }
 
-// The frame of the pins in a relation: a flip-flop's stand one frame earlier.
-pub fn pin_frame(kind: u8, frame: u8) -> u8
-    ensures { result ≡ pin_frame kind frame }
+// The frame of a node's pins in a relation: a flip-flop's stand one frame earlier.
+pub fn pin_frame(netlist: &[u8], node: u16, frame: u8) -> u8
+    ensures { result ≡ pin_frame (kind_of netlist.now node) frame }
 {
-    if kind == FLIP_FLOP && 0 < frame {
+    if netlist::is_of_kind(netlist, node, Kind::FlipFlop) && 0 < frame {
         frame - 1
     } else {
         frame
@@ -35,13 +38,20 @@ pub fn pin_frame(kind: u8, frame: u8) -> u8
 }
 
 // Inputs, and flip-flops at frame 0, have no relation.
-fn has_relation(kind: u8, frame: u8) -> bool
-    ensures { result ≡ has_relation kind frame }
+fn has_relation(netlist: &[u8], node: u16, frame: u8) -> bool
+    ensures { result ≡ has_relation (kind_of netlist.now node) frame }
 {
     if frame == 0 {
-        return !gates::is_given(kind);
+        return !netlist::is_given(netlist, node);
     }
-    kind != INPUT
+    !netlist::is_of_kind(netlist, node, Kind::Input)
+}
+
+// Whether a line is stuck at 0 or 1.
+fn is_held(stuck: Option<u8>) -> bool
+    ensures { result ≡ not (is_unknown (stuck_value stuck)) }
+{
+    stuck.is_some_and(|value| value < UNKNOWN)
 }
 
 // Whether a node has a relation at a frame through which something may be concluded.
@@ -49,42 +59,56 @@ fn has_relation(kind: u8, frame: u8) -> bool
 pub fn in_force(netlist: &[u8], fault: Fault, c: u8, node: u16, frame: u8) -> bool
     ensures { result ≡ in_force (net_of netlist.now) (present_below c (lines_of fault)) node frame }
 {
-    let held = circuit::stuck_node(circuit_in(fault, c, frame), node);
-    if held < NOT_STUCK {
-        return false;
-    }
-    has_relation(netlist::kind_of(netlist, node), frame)
+    let circuit = circuit_in(fault, c, frame);
+    !is_held(circuit.stuck_node(node)) && has_relation(netlist, node, frame)
 }
 
-// What is concluded of a pin's source, where the output is known: the value whose opposite would
-// make the output another. Through a stuck pin nothing is concluded.
-#[tactic(auto, using(crate::proofs::WindowLaws::against, crate::proofs::WindowLaws::tried), unfolding(netlist::specs::Netlist::net_of))]
-fn pin_conclusion(
-    netlist: &[u8],
+// A node whose output is known, and the values that its pins read from.
+#[derive(Clone, Copy)]
+struct KnownOutput<'a> {
+    netlist: &'a [u8],
     circuit: Circuit,
-    values: &[u8],
+    values: &'a [u8],
     node: u16,
     output: u8,
-    pin: u16,
-) -> u8
-    ensures { result ≡ pin_conclusion (net_of netlist.now) (lines_in circuit) (at values.now) node output pin }
-{
-    if circuit::stuck_pin(circuit, node, pin) < NOT_STUCK {
-        return UNKNOWN;
+}
+
+impl KnownOutput<'_> {
+    // Whether the output would be another, if the pin read the value.
+    fn tells_against(&self, pin: u16, value: u8) -> bool
+        ensures { let o = self.now in result ≡ differ (gate (kind_of o.netlist.now o.node) (set (pin_values (net_of o.netlist.now) (lines_in o.circuit) (at o.values.now) o.node) pin value)) o.output }
+    {
+        let made = simulator::gate_assuming(
+            self.netlist,
+            self.circuit,
+            self.values,
+            self.node,
+            pin,
+            value,
+        );
+        gates::values_differ(made, self.output)
     }
-    let rule = gates::rule_of(netlist::kind_of(netlist, node));
-    let gate = rule.gate;
-    let first = gates::controlling_value(gate);
-    let second = gates::negation(first);
-    let with_first = simulator::gate_assuming(netlist, circuit, values, node, pin, first);
-    if gates::values_differ(with_first, output) {
-        return second;
+
+    // What is concluded of a pin's source: the value whose opposite would make the output another.
+    // Through a stuck pin nothing is concluded.
+    #[tactic(auto, unfolding(netlist::specs::Netlist::net_of, crate::specs::Window::pin_conclusion))]
+    fn conclusion(&self, pin: u16) -> u8
+        ensures { let o = self.now in result ≡ pin_conclusion (net_of o.netlist.now) (lines_in o.circuit) (at o.values.now) o.node o.output pin }
+    {
+        if is_held(self.circuit.stuck_pin(self.node, pin)) {
+            return UNKNOWN;
+        }
+        let gate = netlist::rule_of(self.netlist, self.node).gate;
+        let first = gates::controlling_value(gate);
+        let second = gates::negation(first);
+        if self.tells_against(pin, first) {
+            return second;
+        }
+        if self.tells_against(pin, second) {
+            return first;
+        }
+        UNKNOWN
     }
-    let with_second = simulator::gate_assuming(netlist, circuit, values, node, pin, second);
-    if gates::values_differ(with_second, output) {
-        return first;
-    }
-    UNKNOWN
 }
 
 // The source of a pin, 0 where the node has no such pin.
@@ -99,7 +123,8 @@ pub fn pin_source(netlist: &[u8], node: u16, pin: u16) -> u16
 }
 
 // What the relation of a node at a frame concludes of one of its lines: line 0 is the output, and
-// line k + 1 is pin k. The value is UNKNOWN or above where nothing is concluded. What is known lies
+// line k + 1 is pin k, as the definition counts them. The value is UNKNOWN or above where nothing is concluded:
+// the definition's conclusion is a step then too, so an option of one would say less. What is known lies
 // in bytes, frame by frame, one for each node; a place past the end counts as known to be 0, which
 // no caller may lean on: it says nothing of the circuit, and a window has a byte for each place.
 #[tactic(auto, using(crate::proofs::WindowLaws::conclude_output, crate::proofs::WindowLaws::conclude_pin), unfolding(netlist::specs::Netlist::net_of))]
@@ -115,7 +140,7 @@ pub fn conclude(
     ensures { result ≡ conclusion (net_of netlist.now) (present_below c (lines_of fault)) (known_in known.now (net_of netlist.now).size) node frame line }
 {
     let n = netlist::node_count(netlist);
-    let pins_at = pin_frame(netlist::kind_of(netlist, node), frame);
+    let pins_at = pin_frame(netlist, node, frame);
     let circuit = circuit_in(fault, c, pins_at);
     let values = values::tail(known, place_of(n, 0, pins_at as u16));
     if line == 0 {
@@ -130,7 +155,14 @@ pub fn conclude(
     }
     let output = values::byte_at(known, place_of(n, node, frame as u16));
     let source = pin_source(netlist, node, line - 1);
-    let value = pin_conclusion(netlist, circuit, values, node, output, line - 1);
+    let known = KnownOutput {
+        netlist,
+        circuit,
+        values,
+        node,
+        output,
+    };
+    let value = known.conclusion(line - 1);
     Step {
         node: source,
         frame: pins_at,

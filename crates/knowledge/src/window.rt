@@ -24,8 +24,8 @@ fn hold_frame(n: u16, fault: Fault, frame: u16, known: &mut [u8])
     ensures { known.new ≡ set known.old (frame * n + fault.node) ((lines_of fault).node fault.node) }
 {
     let node = fault.node;
-    let held = circuit::stuck_node(Circuit::Faulty(fault), node);
-    values::store(known, place_of(n, node, frame), held);
+    let held = Circuit::Faulty(fault).stuck_node(node);
+    values::store(known, place_of(n, node, frame), held.unwrap_or(UNKNOWN));
 }
 
 // Puts what is known at the start: below frame c a faulted node is held at its stuck value.
@@ -34,10 +34,8 @@ fn hold_fault(n: u16, fault: Fault, c: u8, known: &mut [u8])
     ensures { known.new ≡ hold_frames n fault c (replicate (length known.old) 2) }
 {
     values::fill(known, UNKNOWN);
-    let mut frame: u16 = 0;
-    while frame < c as u16 {
+    for frame in 0..c as u16 {
         hold_frame(n, fault, frame, known);
-        frame += 1;
     }
 }
 

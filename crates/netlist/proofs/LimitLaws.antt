@@ -11,7 +11,7 @@ use Rattle.gates.proofs.LimitLaws.{allowed-before, fits, most_before}
 use Rattle.gates.specs.Kind.{rule_in, rules_up_to}
 use Rattle.values.proofs.ListLaws.{every-at, every-by}
 use Rattle.values.specs.Lists.{every}
-use Rattle.netlist.proofs.NetlistLaws.{read-sound}
+use Rattle.netlist.proofs.NetlistLaws.{read_sound}
 use Rattle.netlist.proofs.RefusalLaws.{Passed, refusal_none}
 use Rattle.netlist.specs.Answer.{Test, refusal}
 use Rattle.netlist.specs.Netlist.{count_fits, kind_of, length_of, node_count, pin_count, reader_tests, reading, sound}
@@ -39,4 +39,4 @@ module _ (bs : List ℕ) (t : Passed tests_before bs) where
 
 -- where no test of 01 refuses a netlist, it is sound
 pub sound-before : (bs : List ℕ) → refusal tests_before bs ≡ none → reading bs ≡ sound (node_count bs) (pin_count bs)
-sound-before bs e = sym (read-sound bs (passed-before bs (refusal_none tests_before bs e)))
+sound-before bs e = sym (read_sound bs (passed-before bs (refusal_none tests_before bs e)))

@@ -5,6 +5,9 @@ use mathlib.Core.Option.{Option, none, some}
 use mathlib.Core.Path.{◌∙◌, ◌≡◌, ap, refl, sym}
 use Prim.Native.Nat.{ℕ}
 use native.Mathlib.Omega.{arith}
+use Rattle.netlist.specs.Refusal.{number_of_refusal}
+use Rattle.netlist.specs.declared.refusal.Refusal.{Refusal}
+use Rattle.netlist.specs.declared.refusal.Refusal.TheVariants as refusals
 use Rattle.netlist.specs.Answer.{Answer, Test, answered, number_of, refusal, refused}
 use Rattle.netlist.specs.Netlist.{node_count, pin_count, reading, reader_tests, sound}
 use Rattle.netlist.proofs.RefusalLaws.{FirstFails, fails_here, fails_later, refusal_some}
@@ -56,3 +59,22 @@ tool_numbers {A} {O} answer ts a bs back done rest same last k = by-reading (rea
         → Mem k (numbers_of reader_tests ++ (numbers_of ts ++ rest))
     by-reading (refused j) e q = mem-append_left (numbers_of ts ++ rest) (reading_numbers bs k (e ∙ ap refused (number j q)))
     by-reading (answered vs) e q = mem-append_right (numbers_of reader_tests) (by-test (refusal ts a) refl q)
+
+-- no refusal has the number 0
+pub number_some : (r : Refusal) → number_of_refusal r ≡ 0 → ⊥
+number_some refusals.NoHead e = absurd (omega (arith, e))
+number_some refusals.SizesNotAllowed e = absurd (omega (arith, e))
+number_some refusals.LengthWrong e = absurd (omega (arith, e))
+number_some refusals.UnknownKind e = absurd (omega (arith, e))
+number_some refusals.PairsApart e = absurd (omega (arith, e))
+number_some refusals.PinCountUnfit e = absurd (omega (arith, e))
+number_some refusals.SourceNotAllowed e = absurd (omega (arith, e))
+number_some refusals.LayoutWrong e = absurd (omega (arith, e))
+number_some refusals.NoSuchFault e = absurd (omega (arith, e))
+number_some refusals.WindowTooLong e = absurd (omega (arith, e))
+number_some refusals.WorkSliceShort e = absurd (omega (arith, e))
+number_some refusals.CertificateSliceShort e = absurd (omega (arith, e))
+number_some refusals.SplitOutside e = absurd (omega (arith, e))
+number_some refusals.StepNotAllowed e = absurd (omega (arith, e))
+number_some refusals.BranchOpen e = absurd (omega (arith, e))
+number_some refusals.SlicesUnfit e = absurd (omega (arith, e))

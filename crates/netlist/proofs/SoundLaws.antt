@@ -11,7 +11,7 @@ use lib.ListN.{length}
 use borrow.Author.Tests.{eqb-false, eqb-true, eq-eqb, le-leb, leb-true, lt-ltb, ltb-true, ne_eqb, not-true}
 use Rattle.values.proofs.BoolLaws.{and_left, and_right}
 use Rattle.values.proofs.ListLaws.{every-at, every-by}
-use Rattle.netlist.proofs.NetlistLaws.{read-sound}
+use Rattle.netlist.proofs.NetlistLaws.{read_sound}
 use Rattle.netlist.proofs.RefusalLaws.{FirstFails, NoneSmaller, Passed, refusal_none, refusal_above, refusal_smallest, refusal_some}
 use Rattle.netlist.specs.Answer.{answered, refusal, refused}
 use Rattle.gates.specs.Kind.{is_flip_flop, is_output, last_kind, rule_of}
@@ -234,7 +234,7 @@ module _ (bs : List ℕ) (f : Facts bs (node_count bs) (pin_count bs)) where
 pub facts-sound : {bs : List ℕ} {n p : ℕ} → Facts bs n p → reading bs ≡ sound n p
 facts-sound {bs} {n} {p} f =
     let g : Facts bs (node_count bs) (pin_count bs) = rw (f.nodes, f.pins) at f in
-    rw (f.nodes, f.pins) (sym (read-sound bs (facts-passed bs g)))
+    rw (f.nodes, f.pins) (sym (read_sound bs (facts-passed bs g)))
 
 -- the reader refuses with k where the first test that fails has the number k
 pub refused-first : (bs : List ℕ) (k : ℕ) → reading bs ≡ refused k → FirstFails bs k reader_tests

@@ -1,10 +1,12 @@
 -- 01, "Netlist": what the bytes of a netlist say, and what the reader answers. Bytes past the end count as 0.
-use Rattle.std.specs.Prelude.{Bool, ◌&&◌, cond, not, List, [], ◌∷◌, ◌*◌, ◌+◌, suc, zero, ℕ, eqb, leb, ltb, length}
+use Rattle.std.specs.Prelude.{Bool, ◌&&◌, cond, not, List, [], ◌∷◌, Result, Ok, Err, ◌*◌, ◌+◌, suc, zero, ℕ, eqb, leb, ltb, length}
 use Rattle.std.proofs.Math.Option.{none, some}
 use Rattle.netlist.specs.Answer.{Answer, Test, answered, refusal, refused}
 use Rattle.gates.specs.Kind.{is_flip_flop, is_kind, is_output, rule_of}
 use Rattle.values.specs.Lists.{at, every, table, u16_at}
-use Rattle.netlist.specs.declared.reader.Reading.{Reading}
+use Rattle.netlist.specs.Refusal.{number_of_refusal}
+use Rattle.netlist.specs.declared.reader.Size.{Size}
+use Rattle.netlist.specs.declared.refusal.Refusal.{Refusal}
 
 -- a circuit: nodes 0 to size - 1, each with its kind and the sources of its pins in order
 pub record Net : Type 0 where
@@ -94,6 +96,6 @@ unfoldable pub reading : List ℕ → Answer
 reading bs = elim (refusal reader_tests bs) [ none ↦ sound (node_count bs) (pin_count bs) | some k ↦ refused k ]
 
 -- the cases of the reader's answer, in 01's terms
-abbrev pub reading_says : Reading → Answer
-reading_says (Reading.Sound n p) = sound n p
-reading_says (Reading.Refused k) = refused k
+abbrev pub reading_says : Result Size Refusal → Answer
+reading_says (Ok size) = sound size.nodes size.pins
+reading_says (Err refusal) = refused (number_of_refusal refusal)

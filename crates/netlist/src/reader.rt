@@ -1,11 +1,11 @@
 // The netlist: what its bytes say, and whether they are a sound netlist.
 ghost use Rattle.std.specs.Prelude.{◌≡◌, ◌&&◌, cond, eqb, ◌*◌, ◌+◌, ◌<◌};
-ghost use Rattle.gates.specs.Kind.{is_flip_flop};
-ghost use Rattle.netlist.specs.Answer.{number_of};
+ghost use Rattle.gates.specs.Kind.{is_flip_flop, is_given, kind_named, number_of, rule_of};
 ghost use Rattle.values.specs.Lists.{every, u16_at};
 ghost use Rattle.netlist.specs.Netlist.{node_count, pin_count, kind_of, offset_of, length_of, source_of, pair_start, sizes_allowed, kind_known, pair_joined, count_fits, source_allowed, sources_allowed, reading, reading_says};
 
-use gates::{FLIP_FLOP, LAST_KIND, OUTPUT, rule_of};
+use crate::refusal::Refusal;
+use gates::{Kind, Rule, UnknownKind};
 use values::{byte_at, u16_at};
 
 // The most nodes, and the most pins of all nodes together.
@@ -13,21 +13,11 @@ pub const MOST_NODES: u16 = 4096;
 
 pub const MOST_PINS_IN_ALL: u16 = 16384;
 
-// What reading a netlist finds: N and P of a sound one, or the refusal's number.
-#[derive(Clone, Copy)]
-pub enum Reading {
-    Sound(u16, u16),
-    Refused(u8),
-}
-
-// The number of a refusal, 0 where nothing is refused.
-pub fn refusal_number(reading: Reading) -> u8
-    ensures { result ≡ number_of (reading_says reading) }
-{
-    match reading {
-        Reading::Sound(_, _) => 0,
-        Reading::Refused(number) => number,
-    }
+// N and P of a netlist.
+#[derive(Clone, Copy, Debug, PartialEq, Eq)]
+pub struct Size {
+    pub nodes: u16,
+    pub pins: u16,
 }
 
 // N: how many nodes the netlist has.
@@ -44,10 +34,43 @@ pub fn pin_count(netlist: &[u8]) -> u16
     u16_at(netlist, 2)
 }
 
-pub fn kind_of(netlist: &[u8], node: u16) -> u8
+// The number of a node's kind.
+fn kind_number(netlist: &[u8], node: u16) -> u8
     ensures { result ≡ kind_of netlist.now node }
 {
     byte_at(netlist, 4 + 5 * (node as usize))
+}
+
+// What kind a node has, or that its number names none.
+pub fn kind_of(netlist: &[u8], node: u16) -> Result<Kind, UnknownKind>
+    ensures { result ≡ kind_named (kind_of netlist.now node) }
+{
+    Kind::try_from(kind_number(netlist, node))
+}
+
+// The rule of a node's kind. No pin count fits a number that names no kind.
+pub fn rule_of(netlist: &[u8], node: u16) -> Rule
+    ensures { result ≡ rule_of (kind_of netlist.now node) }
+{
+    gates::rule_of(kind_number(netlist, node))
+}
+
+// Whether a node is of a kind.
+pub fn is_of_kind(netlist: &[u8], node: u16, kind: Kind) -> bool
+    ensures { result ≡ eqb (kind_of netlist.now node) (number_of kind) }
+{
+    kind_number(netlist, node) == u8::from(kind)
+}
+
+// Whether the clock step is given a node's value.
+#[tactic(auto, using(gates::proofs::KindLaws::named_kind, gates::proofs::KindLaws::given_none))]
+pub fn is_given(netlist: &[u8], node: u16) -> bool
+    ensures { result ≡ is_given (kind_of netlist.now node) }
+{
+    match kind_of(netlist, node) {
+        Ok(kind) => kind.is_given(),
+        Err(_) => false,
+    }
 }
 
 // The offset of a node's pair, counted in pins.
@@ -98,14 +121,7 @@ fn sizes_allowed(n: u16, p: u16) -> bool
 fn kinds_known(netlist: &[u8], n: u16) -> bool
     ensures { result ≡ every (kind_known netlist.now) n }
 {
-    let mut node: u16 = 0;
-    while node < n {
-        if kind_of(netlist, node) > LAST_KIND {
-            return false;
-        }
-        node += 1;
-    }
-    true
+    (0..n).all(|node| kind_of(netlist, node).is_ok())
 }
 
 // Each pair starts where the one before it ends, the first at 0, and the last ends at p.
@@ -113,14 +129,12 @@ fn pairs_joined(netlist: &[u8], n: u16, p: u16) -> bool
     ensures { result ≡ (every (pair_joined netlist.now) n && eqb (pair_start netlist.now n) p) }
 {
     let mut start: usize = 0;
-    let mut node: u16 = 0;
-    while node < n {
+    for node in 0..n {
         let offset = offset_of(netlist, node) as usize;
         if offset != start {
             return false;
         }
         start = offset + length_of(netlist, node) as usize;
-        node += 1;
     }
     start == p as usize
 }
@@ -130,7 +144,7 @@ fn pairs_joined(netlist: &[u8], n: u16, p: u16) -> bool
 fn count_fits(netlist: &[u8], node: u16) -> bool
     ensures { result ≡ count_fits netlist.now node }
 {
-    let rule = rule_of(kind_of(netlist, node));
+    let rule = rule_of(netlist, node);
     let count = length_of(netlist, node);
     rule.least <= count && count <= rule.most
 }
@@ -139,21 +153,14 @@ fn count_fits(netlist: &[u8], node: u16) -> bool
 fn counts_fit(netlist: &[u8], n: u16) -> bool
     ensures { result ≡ every (count_fits netlist.now) n }
 {
-    let mut node: u16 = 0;
-    while node < n {
-        if !count_fits(netlist, node) {
-            return false;
-        }
-        node += 1;
-    }
-    true
+    (0..n).all(|node| count_fits(netlist, node))
 }
 
 // A flip-flop's pin names any node, another node's pin a smaller number.
 fn source_limit(netlist: &[u8], n: u16, node: u16) -> u16
     ensures { result ≡ cond (is_flip_flop (kind_of netlist.now node)) n node }
 {
-    if kind_of(netlist, node) == FLIP_FLOP {
+    if is_of_kind(netlist, node, Kind::FlipFlop) {
         n
     } else {
         node
@@ -167,7 +174,7 @@ fn source_allowed(netlist: &[u8], n: u16, node: u16, pin: u16) -> bool
     ensures { result ≡ source_allowed netlist.now node pin }
 {
     let source = source_of(netlist, node, pin);
-    source < source_limit(netlist, n, node) && kind_of(netlist, source) != OUTPUT
+    source < source_limit(netlist, n, node) && !is_of_kind(netlist, source, Kind::Output)
 }
 
 // Whether each of a node's pins names a source that it may name.
@@ -175,15 +182,7 @@ fn sources_allowed(netlist: &[u8], n: u16, node: u16) -> bool
     requires { n ≡ node_count netlist.now }
     ensures { result ≡ sources_allowed netlist.now node }
 {
-    let count = length_of(netlist, node);
-    let mut pin: u16 = 0;
-    while pin < count {
-        if !source_allowed(netlist, n, node, pin) {
-            return false;
-        }
-        pin += 1;
-    }
-    true
+    (0..length_of(netlist, node)).all(|pin| source_allowed(netlist, n, node, pin))
 }
 
 // Whether each pin of the first n nodes names a source that it may name.
@@ -191,42 +190,35 @@ fn all_sources_allowed(netlist: &[u8], n: u16) -> bool
     requires { n ≡ node_count netlist.now }
     ensures { result ≡ every (sources_allowed netlist.now) n }
 {
-    let mut node: u16 = 0;
-    while node < n {
-        if !sources_allowed(netlist, n, node) {
-            return false;
-        }
-        node += 1;
-    }
-    true
+    (0..n).all(|node| sources_allowed(netlist, n, node))
 }
 
 // Whether the netlist is sound. Each refusal is looked for in the whole netlist before the next.
-pub fn read(netlist: &[u8]) -> Reading
+pub fn read(netlist: &[u8]) -> Result<Size, Refusal>
     ensures { reading_says result ≡ reading netlist.now }
 {
     if netlist.len() < 4 {
-        return Reading::Refused(1);
+        return Err(Refusal::NoHead);
     }
     let n = node_count(netlist);
     let p = pin_count(netlist);
     if !sizes_allowed(n, p) {
-        return Reading::Refused(2);
+        return Err(Refusal::SizesNotAllowed);
     }
     if netlist.len() != 4 + 5 * (n as usize) + 2 * (p as usize) {
-        return Reading::Refused(3);
+        return Err(Refusal::LengthWrong);
     }
     if !kinds_known(netlist, n) {
-        return Reading::Refused(4);
+        return Err(Refusal::UnknownKind);
     }
     if !pairs_joined(netlist, n, p) {
-        return Reading::Refused(5);
+        return Err(Refusal::PairsApart);
     }
     if !counts_fit(netlist, n) {
-        return Reading::Refused(6);
+        return Err(Refusal::PinCountUnfit);
     }
     if !all_sources_allowed(netlist, n) {
-        return Reading::Refused(7);
+        return Err(Refusal::SourceNotAllowed);
     }
-    Reading::Sound(n, p)
+    Ok(Size { nodes: n, pins: p })
 }

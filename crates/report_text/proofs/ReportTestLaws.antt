@@ -6,7 +6,7 @@ use borrow.Author.Tests.{lt-leb}
 use lib.ListN.{get_or-append}
 use lib.Seq.{drop-append-le}
 use Rattle.values.proofs.BoolLaws.{and_left, and_right}
-use Rattle.netlist.proofs.NetlistLaws.{read-refused}
+use Rattle.netlist.proofs.NetlistLaws.{read_refused}
 use Rattle.netlist.proofs.RefusalLaws.{fails_here, fails_later}
 use Rattle.netlist.specs.Answer.{Answer, answered, refusal, refused}
 use Rattle.values.specs.Lists.{at}
@@ -55,10 +55,10 @@ long_refused bs h = go (sizes_allowed (node_count bs) (pin_count bs)) refl
     t₁ = le-leb 4 (length bs) (omega arith)
 
     go : (b : Bool) → sizes_allowed (node_count bs) (pin_count bs) ≡ b → reading bs ≡ refused (cond b 3 2)
-    go false e = sym (read-refused bs 2 (fails_later t₁ (fails_here e refl)))
+    go false e = sym (read_refused bs 2 (fails_later t₁ (fails_here e refl)))
     go true e =
         let other : length bs ≡ 4 + 5 * node_count bs + 2 * pin_count bs → ⊥ = λ q. omega (arith, sizes_small (node_count bs) (pin_count bs) e) in
-        sym (read-refused bs 3 (fails_later t₁ (fails_later e (fails_here (ne_eqb (length bs) (4 + 5 * node_count bs + 2 * pin_count bs) other) refl))))
+        sym (read_refused bs 3 (fails_later t₁ (fails_later e (fails_here (ne_eqb (length bs) (4 + 5 * node_count bs + 2 * pin_count bs) other) refl))))
 
 -- what is behind a netlist that is too long makes no difference
 long_same : (bs rest : List ℕ) → 53252 < length bs → reading (bs ++ rest) ≡ reading bs

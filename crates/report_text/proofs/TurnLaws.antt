@@ -7,34 +7,37 @@ use Rattle.circuit.specs.declared.fault.Fault.{Fault}
 use Rattle.finder.proofs.FoundLaws.{Searched, answered-searched}
 use Rattle.finder.specs.Finder.{FinderOutcome, finder_outcome, finding, finding_says}
 use Rattle.search.specs.FinderCall.{finder_call}
-use Rattle.finder.specs.declared.Finding.{Finding}
+use Rattle.finder.specs.declared.Mark.{Mark}
+use Rattle.netlist.specs.declared.refusal.Refusal.{Refusal}
+use Rattle.std.specs.Prelude.{Option, Result}
 use Rattle.fault_list.specs.Faults.{fault_after, rest_after}
 use Rattle.report_text.proofs.StageLaws.{list_left, rest-left}
 use Rattle.report_text.specs.Report.{given_b, given_f, netlist_in}
-use Rattle.report_text.specs.Turns.{fault_turn, is_over, made_for, progress, stage_at, line_written, turn, turns_left}
+use Rattle.report_text.specs.Turns.{fault_turn, is_over, made_for, stage_at, line_written, turn, turns_left}
+use Rattle.report_text.specs.declared.progress.Progress.{Progress}
 use Rattle.report_text.specs.declared.progress.Stage.{Stage}
 use Rattle.report_text.specs.declared.progress.Stage.TheVariants.{Counted, Looking, Over}
 
 -- the finder answers s of a fault, on slices that hold v, w and x, and leaves v', w' and x' in them
-pub record Said (input : List ℕ) (f : Fault) (v w x v' w' x' : List ℕ) (s : Finding) : Type 0 where
+pub record Said (input : List ℕ) (f : Fault) (v w x v' w' x' : List ℕ) (s : Result (Option Mark) Refusal) : Type 0 where
   pub outcome : finder_outcome (finding_says s) v' w' x' ≡ finding (finder_call (netlist_in input) f (given_b input) (given_f input) v w x)
 
 -- by the finder's contract
-pub said : (input : List ℕ) (f : Fault) (v w x : List ℕ) {v' w' x' nb : List ℕ} {b F : ℕ} {r : Finding} (s : Finding) → nb ≡ netlist_in input → b ≡ given_b input → F ≡ given_f input
+pub said : (input : List ℕ) (f : Fault) (v w x : List ℕ) {v' w' x' nb : List ℕ} {b F : ℕ} {r : Result (Option Mark) Refusal} (s : Result (Option Mark) Refusal) → nb ≡ netlist_in input → b ≡ given_b input → F ≡ given_f input
     → r ≡ s → finder_outcome (finding_says r) v' w' x' ≡ finding (finder_call nb f b F v w x) → Said input f v w x v' w' x' s
 said input f v w x {v'} {w'} {x'} s nb-is b-is F-is q e =
     record {
-      outcome = ap (λ (r : Finding). finder_outcome (finding_says r) v' w' x') (sym q) ∙ e ∙ (λ i. finding (finder_call (nb-is i) f (b-is i) (F-is i) v w x));
+      outcome = ap (λ (r : Result (Option Mark) Refusal). finder_outcome (finding_says r) v' w' x') (sym q) ∙ e ∙ (λ i. finding (finder_call (nb-is i) f (b-is i) (F-is i) v w x));
     }
 
-module _ {input : List ℕ} {f : Fault} {v w x v' w' x' : List ℕ} {s : Finding} (e : Said input f v w x v' w' x' s) where
+module _ {input : List ℕ} {f : Fault} {v w x v' w' x' : List ℕ} {s : Result (Option Mark) Refusal} (e : Said input f v w x v' w' x' s) where
   -- it says what the turn makes
-  pub fault-turn : (k m : ℕ) (l : List ℕ)
-      → line_written (made_for (net_of (netlist_in input)) f k m x' (finding_says s)) v' w' x' l ≡ fault_turn f (turn input (progress (Looking f) k m 0) v w x l)
+  pub fault-turn : (p : Progress) (l : List ℕ)
+      → line_written (made_for (net_of (netlist_in input)) f p.marks p.faults x' (finding_says s)) v' w' x' l ≡ fault_turn f (turn input p v w x l)
   unfolding fault_turn
-  fault-turn k m l =
+  fault-turn p l =
       ap
-      (λ (o : FinderOutcome). line_written (made_for (net_of (netlist_in input)) f k m o.certificate o.answer) o.first o.second o.certificate l)
+      (λ (o : FinderOutcome). line_written (made_for (net_of (netlist_in input)) f p.marks p.faults o.certificate o.answer) o.first o.second o.certificate l)
       e.outcome
 
   -- an answer that is no refusal: the netlist is sound, and the fault exists

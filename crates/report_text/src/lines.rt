@@ -11,13 +11,12 @@ use fault_list::{put_field, put_text};
 // The line of a mark: the fault, c, and the split that its certificate names. Says how long it is.
 #[tactic(auto, using(fault_list::proofs::TextLaws::runs), unfolding(crate::specs::Lines::mark_line))]
 pub(crate) fn mark_line(out: &mut [u8], fault: Fault, c: u8, certificate: &[u8]) -> usize
-    ensures value { (result ≡ length (mark_line fault (split c (split_frame certificate.now) (split_node certificate.now)))) × (result ≤ line_length) }
-    ensures out_after { out.new ≡ sets out.old 0 (mark_line fault (split c (split_frame certificate.now) (split_node certificate.now))) }
+    ensures length_said { (result ≡ length (mark_line fault (split c (split_frame certificate.now) (split_node certificate.now)))) × (result ≤ line_length) }
+    ensures written { out.new ≡ sets out.old 0 (mark_line fault (split c (split_frame certificate.now) (split_node certificate.now))) }
 {
-    let site = fault.site;
     let head = certificate::head_of(certificate);
     let mut end = put_field(out, 0, fault.node as u32, b' ');
-    end += put_field(out, end, circuit::site_byte(site) as u32, b' ');
+    end += put_field(out, end, u8::from(fault.site) as u32, b' ');
     end += put_field(out, end, fault.stuck as u32, b' ');
     end += put_field(out, end, c as u32, b' ');
     end += put_field(out, end, head.node as u32, b' ');
@@ -27,8 +26,8 @@ pub(crate) fn mark_line(out: &mut [u8], fault: Fault, c: u8, certificate: &[u8])
 // The last line: so many marks among so many faults.
 #[tactic(auto, using(fault_list::proofs::TextLaws::runs), unfolding(crate::specs::Lines::total_line))]
 pub(crate) fn total_line(out: &mut [u8], marks: u32, faults: u32) -> usize
-    ensures value { (result ≡ length (total_line marks faults)) × (result ≤ line_length) }
-    ensures out_after { out.new ≡ sets out.old 0 (total_line marks faults) }
+    ensures length_said { (result ≡ length (total_line marks faults)) × (result ≤ line_length) }
+    ensures written { out.new ≡ sets out.old 0 (total_line marks faults) }
 {
     let mut end = put_field(out, 0, marks, b' ');
     end += put_text(out, end, b"of ");
@@ -38,8 +37,8 @@ pub(crate) fn total_line(out: &mut [u8], marks: u32, faults: u32) -> usize
 // The line of a refusal.
 #[tactic(auto, using(fault_list::proofs::TextLaws::runs), unfolding(crate::specs::Lines::refused_line))]
 pub(crate) fn refused_line(out: &mut [u8], number: u8) -> usize
-    ensures value { (result ≡ length (refused_line number)) × (result ≤ line_length) }
-    ensures out_after { out.new ≡ sets out.old 0 (refused_line number) }
+    ensures length_said { (result ≡ length (refused_line number)) × (result ≤ line_length) }
+    ensures written { out.new ≡ sets out.old 0 (refused_line number) }
 {
     let end = put_text(out, 0, b"refused ");
     end + put_field(out, end, number as u32, b'\n')

@@ -10,7 +10,6 @@ ghost use Rattle.report_text.specs.Turns.{WritesReport, begun, fault_turn, is_ov
 use crate::lines::{mark_line, refused_line, total_line};
 use circuit::Fault;
 use fault_list::{fault_after, first_of};
-use finder::Finding;
 
 // What comes next: a fault is looked at, or all are counted and the total is written, or nothing.
 #[derive(Clone, Copy)]
@@ -55,24 +54,7 @@ pub fn begin(input: &[u8]) -> Progress
 pub fn is_over(progress: Progress) -> bool
     ensures { result ≡ is_over progress.stage }
 {
-    let stage = progress.stage;
-    match stage {
-        Stage::Looking(_) => false,
-        Stage::Counted => false,
-        Stage::Over => true,
-    }
-}
-
-// The last line has been written, with this length.
-fn ended(marks: u32, faults: u32, length: usize) -> Progress
-    ensures { result ≡ progress Stage.Over marks faults length }
-{
-    Progress {
-        stage: Stage::Over,
-        marks,
-        faults,
-        length,
-    }
+    matches!(progress.stage, Stage::Over)
 }
 
 // A fault that the circuit has is looked at; behind the last one they are all counted.
@@ -86,53 +68,69 @@ fn stage_at(netlist: &[u8], fault: Fault) -> Stage
     Stage::Counted
 }
 
-// One fault more was looked at, a mark or not, and its line has this length.
-fn looked_at(netlist: &[u8], fault: Fault, marks: u32, faults: u32, length: usize) -> Progress
-    requires netlist_value { reading netlist.now ≡ sound (node_count netlist.now) (pin_count netlist.now) }
-    requires fault_value { fault_exists (net_of netlist.now) fault ≡ true }
-    ensures { result ≡ progress (stage_at (net_of netlist.now) (fault_after (net_of netlist.now) fault)) marks (one_more faults) length }
-{
-    let stage = stage_at(netlist, fault_after(netlist, fault));
-    Progress {
-        stage,
-        marks,
-        faults: std::num::wrapping_add_u32(faults, 1),
-        length,
-    }
-}
-
-// Looks at a fault: its line is written where the finder marks it, the refusal's where it refuses.
-#[tactic(auto, using(crate::proofs::TurnLaws::Said, crate::proofs::TurnLaws::said, crate::proofs::TurnLaws::turns_fall), unfolding(crate::specs::Turns::made_for))]
-fn look_at(
-    input: &[u8],
-    fault: Fault,
-    marks: u32,
-    faults: u32,
-    first: &mut [u8],
-    second: &mut [u8],
-    certificate: &mut [u8],
-    line: &mut [u8],
-) -> Progress
-    ensures line_after { turn_outcome result first.new second.new certificate.new line.new ≡ fault_turn fault (turn input.now (progress (Stage.Looking fault) marks faults 0) first.old second.old certificate.old line.old) }
-    ensures length_le_line_length { (result.length ≤ line_length) × (turns_left input.now result.stage < turns_left input.now (Stage.Looking fault)) }
-{
-    let netlist = values::tail(input, GIVEN_LENGTH);
-    let b = values::byte_at(input, 0);
-    let f = values::byte_at(input, 1);
-    let finding = finder::find(netlist, fault, b, f, first, second, certificate);
-    match finding {
-        Finding::Found(c, _, _) => {
-            let length = mark_line(line, fault, c, certificate);
-            looked_at(
-                netlist,
-                fault,
-                std::num::wrapping_add_u32(marks, 1),
-                faults,
-                length,
-            )
+impl Progress {
+    // The last line has been written, with this length.
+    fn ended(self, length: usize) -> Progress
+        ensures { result ≡ progress Stage.Over self.marks self.faults length }
+    {
+        Progress {
+            stage: Stage::Over,
+            length,
+            ..self
         }
-        Finding::None => looked_at(netlist, fault, marks, faults, 0),
-        Finding::Refused(number) => ended(marks, faults, refused_line(line, number)),
+    }
+
+    // One mark more.
+    fn marked(self) -> Progress
+        ensures { result ≡ progress self.stage (one_more self.marks) self.faults self.length }
+    {
+        Progress {
+            marks: self.marks.wrapping_add(1),
+            ..self
+        }
+    }
+
+    // One fault more was looked at, and its line has this length.
+    fn looked_at(self, netlist: &[u8], fault: Fault, length: usize) -> Progress
+        requires netlist_sound { reading netlist.now ≡ sound (node_count netlist.now) (pin_count netlist.now) }
+        requires fault_exists { fault_exists (net_of netlist.now) fault ≡ true }
+        ensures { result ≡ progress (stage_at (net_of netlist.now) (fault_after (net_of netlist.now) fault)) self.marks (one_more self.faults) length }
+    {
+        Progress {
+            stage: stage_at(netlist, fault_after(netlist, fault)),
+            faults: self.faults.wrapping_add(1),
+            length,
+            ..self
+        }
+    }
+
+    // Looks at a fault: its line is written where the finder marks it, the refusal's where it refuses.
+    #[tactic(auto, using(crate::proofs::TurnLaws::Said, crate::proofs::TurnLaws::said, crate::proofs::TurnLaws::turns_fall), unfolding(crate::specs::Turns::made_for))]
+    fn look_at(
+        self,
+        input: &[u8],
+        fault: Fault,
+        first: &mut [u8],
+        second: &mut [u8],
+        certificate: &mut [u8],
+        line: &mut [u8],
+    ) -> Progress
+        ensures turn_made { turn_outcome result first.new second.new certificate.new line.new ≡ fault_turn fault (turn input.now self first.old second.old certificate.old line.old) }
+        ensures line_fits { result.length ≤ line_length }
+        ensures turns_fall { turns_left input.now result.stage < turns_left input.now (Stage.Looking fault) }
+    {
+        let netlist = values::tail(input, GIVEN_LENGTH);
+        let b = values::byte_at(input, 0);
+        let f = values::byte_at(input, 1);
+        let finding = finder::find(netlist, fault, b, f, first, second, certificate);
+        match finding {
+            Ok(Some(mark)) => {
+                let length = mark_line(line, fault, mark.c, certificate);
+                self.marked().looked_at(netlist, fault, length)
+            }
+            Ok(None) => self.looked_at(netlist, fault, 0),
+            Err(refusal) => self.ended(refused_line(line, u8::from(refusal))),
+        }
     }
 }
 
@@ -146,25 +144,13 @@ pub fn next_line(
     certificate: &mut [u8],
     line: &mut [u8],
 ) -> Progress
-    ensures line_after { turn_outcome result first.new second.new certificate.new line.new ≡ next_line (turn input.now progress first.old second.old certificate.old line.old) }
-    ensures length_le_line_length { result.length ≤ line_length }
-    ensures stage_bound { turns_left input.now result.stage ≤ turns_left input.now progress.stage - 1 }
+    ensures turn_made { turn_outcome result first.new second.new certificate.new line.new ≡ next_line (turn input.now progress first.old second.old certificate.old line.old) }
+    ensures line_fits { result.length ≤ line_length }
+    ensures turns_fall { turns_left input.now result.stage ≤ turns_left input.now progress.stage - 1 }
 {
-    let stage = progress.stage;
-    let marks = progress.marks;
-    let faults = progress.faults;
-    match stage {
-        Stage::Looking(fault) => look_at(
-            input,
-            fault,
-            marks,
-            faults,
-            first,
-            second,
-            certificate,
-            line,
-        ),
-        Stage::Counted => ended(marks, faults, total_line(line, marks, faults)),
-        Stage::Over => ended(marks, faults, 0),
+    match progress.stage {
+        Stage::Looking(fault) => progress.look_at(input, fault, first, second, certificate, line),
+        Stage::Counted => progress.ended(total_line(line, progress.marks, progress.faults)),
+        Stage::Over => progress.ended(0),
     }
 }

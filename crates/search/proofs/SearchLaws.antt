@@ -1,4 +1,6 @@
 -- Laws of the search's answer: which refusal is given, when the splits are searched, and what a split that is answered says.
+use Rattle.std.specs.Prelude.{None, Ok, Some}
+use Rattle.std.specs.Prelude as code
 use mathlib.Core.List.{List}
 use mathlib.Core.Option.{Option, none, some}
 use mathlib.Core.Path.{◌∙◌, ◌≡◌, ap, refl}
@@ -12,8 +14,7 @@ use Rattle.trace.specs.Trace.{cleared}
 use Rattle.search.proofs.FirstLaws.{split_some}
 use Rattle.search.specs.FinderCall.{FinderCall, finder_tests, largest_window}
 use Rattle.search.specs.FirstSplit.{IsFirst, first_split}
-use Rattle.search.specs.Inner.Search.{SearchOutcome, at_split, search_made, search_outcome, searching, unsearched}
-use Rattle.search.specs.declared.answer.Searched.{Searched}
+use Rattle.search.specs.Inner.Search.{SearchOutcome, at_split, found, search_made, search_outcome, searched_says, searching, split_at, unsearched}
 use Rattle.splits.specs.declared.split.Split.{Split}
 
 -- a split that is answered: the netlist is sound, all tests pass, it is the first that closes, and the first work slice is cleared
@@ -46,7 +47,7 @@ module _ (a : FinderCall) where
   searching-made e t = ap read-then e ∙ ap tested (refusal_by finder_tests a t)
 
   -- an answered split is the first that closes
-  pub answered-split : (s : Split) (v w : List ℕ) → search_outcome (Searched.At s) v w ≡ searching a → SplitFound a s v
+  pub answered-split : (s : Split) (v w : List ℕ) → search_outcome (split_at s) v w ≡ searching a → SplitFound a s v
   unfolding searching
   answered-split s v w e = by-reading (reading a.netlist) refl e
     where
@@ -54,15 +55,15 @@ module _ (a : FinderCall) where
       first = first_split (net_of a.netlist) a.fault a.b a.f
 
       -- it is no refusal
-      not_refused : (k : ℕ) → search_outcome (Searched.At s) v w ≡ unsearched k a → ⊥
+      not_refused : (k : ℕ) → search_outcome (split_at s) v w ≡ unsearched k a → ⊥
       not_refused k e = let q = ap (λ (o : SearchOutcome). o.answer) e in let z : ◌≡◌ {A = ℕ} 0 1 = cc in omega arith
 
-      is_split : (x : Option Split) → Searched.At s ≡ at_split x → x ≡ some s
+      is_split : (x : Option Split) → split_at s ≡ at_split x → x ≡ some s
       is_split none e = absurd (let z : ◌≡◌ {A = ℕ} 0 1 = cc in omega arith)
       is_split (some r) e = cc
 
       by-test : reading a.netlist ≡ sound (node_count a.netlist) (pin_count a.netlist) → (r : Option ℕ) → refusal finder_tests a ≡ r
-          → search_outcome (Searched.At s) v w ≡ tested r → SplitFound a s v
+          → search_outcome (split_at s) v w ≡ tested r → SplitFound a s v
       by-test q (some k) z e = absurd (not_refused k e)
       by-test q none z e =
           record {
@@ -72,6 +73,11 @@ module _ (a : FinderCall) where
             first_cleared = ap (λ (o : SearchOutcome). o.first) e;
           }
 
-      by-reading : (r : Answer) → reading a.netlist ≡ r → search_outcome (Searched.At s) v w ≡ read-then r → SplitFound a s v
+      by-reading : (r : Answer) → reading a.netlist ≡ r → search_outcome (split_at s) v w ≡ read-then r → SplitFound a s v
       by-reading (refused k) q e = absurd (not_refused k e)
       by-reading (answered vs) q e = by-test (answered-sound a.netlist vs q) (refusal finder_tests a) refl e
+
+-- the code's answer without a refusal, in the words of the definition
+pub says_found : (r : code.Option Split) → searched_says (Ok r) ≡ at_split (found r)
+says_found None = refl
+says_found (Some s) = refl

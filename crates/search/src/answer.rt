@@ -1,50 +1,28 @@
 // The search's answer: the first split whose two branches close, or none, or a refusal.
-ghost use Rattle.std.specs.Prelude.{◌≡◌, true, ◌*◌, ◌+◌, ◌≤◌, length, replicate};
-ghost use Rattle.circuit.specs.Fault.{fault_exists};
-ghost use Rattle.netlist.specs.Netlist.{net_of, pin_count, reading, sound};
+ghost use Rattle.std.specs.Prelude.{◌≡◌, length, replicate};
 ghost use Rattle.search.specs.FinderCall.{finder_call};
-ghost use Rattle.search.specs.FirstSplit.{first_split};
-ghost use Rattle.search.specs.Inner.Search.{at_split, search_outcome, searching};
-ghost use Rattle.knowledge.specs.Window.{most_frames};
+ghost use Rattle.search.specs.Inner.Asked.{OfWindow, first_closing};
+ghost use Rattle.search.specs.Inner.Search.{found, search_outcome, searched_says, searching};
 
-use crate::walk::split_in_window;
-use certificate::slices_refusal;
+use crate::question::Question;
+use certificate::check_slices;
 use circuit::Fault;
 use knowledge::MOST_FRAMES;
-use netlist::Reading;
+use netlist::Refusal;
 use splits::Split;
 
-// The first split that closes, or none, or the refusal's number.
-#[derive(Clone, Copy)]
-pub enum Searched {
-    At(Split),
-    None,
-    Refused(u8),
-}
-
-// Searches the windows up to that of b, in slices of its size. Both are cleared afterwards.
-fn search_window(
-    netlist: &[u8],
-    n: u16,
-    fault: Fault,
-    b: u8,
-    f: u8,
-    known: &mut [u8],
-    spare: &mut [u8],
-) -> Searched
-    requires netlist_value { reading netlist.now ≡ sound n (pin_count netlist.now) }
-    requires fault_value { fault_exists (net_of netlist.now) fault ≡ true }
-    requires f_bound { b + f + 1 ≤ most_frames }
-    requires known_len { (length known.old ≡ n * (b + f + 1)) × (length spare.old ≡ n * (b + f + 1)) }
-    ensures { search_outcome result known.new spare.new ≡ search_outcome (at_split (first_split (net_of netlist.now) fault b f)) (replicate (length known.old) 0) (replicate (length spare.old) 0) }
-{
-    let split = split_in_window(netlist, n, fault, b, f, known, spare);
-    values::fill(known, 0);
-    values::fill(spare, 0);
-    if split.is_within(b) {
-        return Searched::At(split);
+impl Question<'_> {
+    // Searches the windows up to that of b, in slices of its size. Both are cleared afterwards.
+    fn search_window(&self, known: &mut [u8], spare: &mut [u8]) -> Option<Split>
+        requires { OfWindow self.now self.now.b known.old spare.old }
+        ensures answer { found result ≡ first_closing self.now }
+        ensures cleared { (known.new ≡ replicate (length known.old) 0) × (spare.new ≡ replicate (length spare.old) 0) }
+    {
+        let split = self.split_in_window(known, spare);
+        values::fill(known, 0);
+        values::fill(spare, 0);
+        split
     }
-    Searched::None
 }
 
 // The first split that closes, by c up to b, then frame, then node; f frames lie behind the fault frame,
@@ -58,32 +36,30 @@ pub fn first_split(
     room: usize,
     first: &mut [u8],
     second: &mut [u8],
-) -> Searched
-    ensures { search_outcome result first.new second.new ≡ searching (finder_call netlist.now fault b f first.old second.old (replicate room 0)) }
+) -> Result<Option<Split>, Refusal>
+    ensures { search_outcome (searched_says result) first.new second.new ≡ searching (finder_call netlist.now fault b f first.old second.old (replicate room 0)) }
 {
+    // by let .. else, as document 01 asks
     let answer = netlist::read(netlist);
-    let Reading::Sound(n, _) = answer else {
-        return Searched::Refused(netlist::refusal_number(answer));
+    let Ok(size) = answer else {
+        return Err(answer.unwrap_err());
     };
+    let n = size.nodes;
     if !circuit::fault_exists(netlist, fault) {
-        return Searched::Refused(9);
+        return Err(Refusal::NoSuchFault);
     }
     let w = b as u16 + f as u16 + 1;
     if w > MOST_FRAMES {
-        return Searched::Refused(10);
+        return Err(Refusal::WindowTooLong);
     }
     let size = n as usize * w as usize;
-    let number = slices_refusal(size, first, second, room);
-    if number != 0 {
-        return Searched::Refused(number);
-    }
-    search_window(
+    check_slices(size, first, second, room)?;
+    let question = Question {
         netlist,
         n,
         fault,
         b,
         f,
-        &mut first[..size],
-        &mut second[..size],
-    )
+    };
+    Ok(question.search_window(&mut first[..size], &mut second[..size]))
 }

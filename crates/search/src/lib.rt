@@ -6,9 +6,11 @@ mod answer;
 mod branch;
 mod guess;
 mod notes;
+mod question;
 mod quick;
 mod random;
 mod trial;
 mod walk;
+mod work;
 
-pub use answer::{Searched, first_split};
+pub use answer::first_split;

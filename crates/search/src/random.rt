@@ -3,7 +3,7 @@
 ghost use Rattle.std.specs.Prelude.{ℕ, ◌<◌, length};
 ghost use Rattle.values.specs.Lists.{at};
 
-use gates::INPUT;
+use gates::Kind;
 
 // The word from which the runs begin.
 pub(crate) const FIRST_WORD: u64 = 88172645463325252;
@@ -24,13 +24,6 @@ fn next_word(word: u64) -> u64 {
     second ^ (second << 17)
 }
 
-// A word turned to the left by some bits.
-fn turned(word: u64, bits: u8) -> u64 {
-    let up = bits % 64;
-    let down = (64 - up) % 64;
-    (word << up) | (word >> down)
-}
-
 // The values that an input mostly has, in each of the runs: words of neighbouring nodes have nothing in
 // common, so the node is spread over a word's bits and the word is drawn on.
 fn usual_word(node: u16) -> u64 {
@@ -42,55 +35,64 @@ fn usual_word(node: u16) -> u64 {
 // where four bits of the word, far from each other, are all 1.
 pub(crate) fn input_word(node: u16, word: u64) -> u64 {
     let usual = (usual_word(node) & OWN_RUNS) | HIGH_RUNS;
-    let rare = word & turned(word, 21) & turned(word, 42) & turned(word, 11);
+    let rare = word & word.rotate_left(21) & word.rotate_left(42) & word.rotate_left(11);
     usual ^ (rare | (word & EVEN_RUNS))
 }
 
 // The word that is drawn for a node: a new one where it is of the kind.
-pub(crate) fn drawn_for(netlist: &[u8], kind: u8, node: u16, word: u64) -> u64 {
-    if netlist::kind_of(netlist, node) == kind {
+pub(crate) fn drawn_for(netlist: &[u8], kind: Kind, node: u16, word: u64) -> u64 {
+    if netlist::is_of_kind(netlist, node, kind) {
         return next_word(word);
     }
     word
 }
 
 // The values that a node has of a drawn word: an input is mostly what it usually is.
-fn values_of(netlist: &[u8], kind: u8, node: u16, word: u64) -> u64 {
-    if kind != INPUT {
-        return word;
+fn values_of(netlist: &[u8], kind: Kind, node: u16, word: u64) -> u64 {
+    if kind == Kind::Input && netlist::is_of_kind(netlist, node, kind) {
+        return input_word(node, word);
     }
-    if netlist::kind_of(netlist, node) != INPUT {
-        return word;
-    }
-    input_word(node, word)
+    word
 }
 
-// The bit of a word that a run has.
-fn bit_of(word: u64, lane: u8) -> u8
-    ensures { result < 2 }
-{
-    ((word >> (lane % 64)) % 2) as u8
+// One run by itself: which bit of a word is its own, and the word that was drawn last.
+#[derive(Drop)]
+pub(crate) struct Run {
+    lane: u8,
+    word: u64,
 }
 
-// The value that a node has in a run.
-fn value_in(netlist: &[u8], kind: u8, node: u16, word: u64, lane: u8) -> u8
-    ensures { result < 2 }
-{
-    bit_of(values_of(netlist, kind, node, word), lane)
-}
-
-// Puts a 0 or 1 of a run into every place, a new one for each node of the kind. Gives the word from
-// which to go on.
-pub(crate) fn draw(random: u64, values: &mut [u8], lane: u8, netlist: &[u8], kind: u8) -> u64
-    ensures { (k : ℕ) → k < length values.old → at values.new k < 2 }
-{
-    let mut next = random;
-    let mut place: usize = 0;
-    while place < values.len() {
-        let node = (place % 65536) as u16;
-        next = drawn_for(netlist, kind, node, next);
-        values[place] = value_in(netlist, kind, node, next, lane);
-        place += 1;
+impl Run {
+    // A run at its start.
+    pub(crate) fn new(lane: u8) -> Self {
+        Run {
+            lane,
+            word: FIRST_WORD,
+        }
     }
-    next
+
+    // The run's bit of a word.
+    fn bit_of(&self, word: u64) -> u8
+        ensures { result < 2 }
+    {
+        ((word >> (self.lane % 64)) % 2) as u8
+    }
+
+    // The value that a node has in the run: a new word is drawn for one of the kind.
+    fn value_at(&mut self, netlist: &[u8], kind: Kind, node: u16) -> u8
+        ensures { result < 2 }
+    {
+        self.word = drawn_for(netlist, kind, node, self.word);
+        self.bit_of(values_of(netlist, kind, node, self.word))
+    }
+
+    // Puts a 0 or 1 of the run into every place, a new one for each node of the kind.
+    pub(crate) fn draw(&mut self, netlist: &[u8], kind: Kind, values: &mut [u8])
+        ensures { (k : ℕ) → k < length values.old → at values.new k < 2 }
+    {
+        for (place, value) in values.iter_mut().enumerate() {
+            let node = (place % 65536) as u16;
+            *value = self.value_at(netlist, kind, node);
+        }
+    }
 }

@@ -35,6 +35,9 @@ module _ (c : Net) (s : StuckLines) (given v : ℕ → ℕ) (n : ℕ) where
   unfolding seen_by
   seen_by-gate h e = stuck-free (s.node n) _ h ∙ rw e
 
+-- what a node is seen as, in each of these cases
+pub ruleset seen_cases = (seen_by-stuck, seen_by-given, seen_by-gate)
+
 -- a circuit without loops but through flip-flops: sources are nodes, and a gate's or output's sources have smaller numbers
 pub record Ordered (c : Net) : Type 0 where
   pub within : (n : ℕ) → n < c.size → Below c.size (c.pins n)

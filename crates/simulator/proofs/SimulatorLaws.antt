@@ -74,6 +74,8 @@ module _ (c : Net) (v w : List ℕ) (n : ℕ) (e : n ≡ c.size) where
   unfolding slices_fit
   slices_places g h = rw e (rw (eq-eqb (length v) c.size (g ∙ e), eq-eqb (length w) c.size (h ∙ e)))
 
+pub ruleset slices_parts = (slices-first, slices-second, slices_places)
+
 -- both slices have N bytes, and the inputs and latched values that are read are 0 or 1
 pub record Fitting (c : Net) (first second : List ℕ) : Type 0 where
   pub first_size : length first ≡ c.size

@@ -1,5 +1,5 @@
 -- 01, "Clock step": seen values, latched values, and what the simulator answers and leaves in its two slices.
-use Rattle.std.specs.Prelude.{Bool, ◌&&◌, ◌||◌, cond, not, List, [], ◌∷◌, ℕ, eqb, leb, length}
+use Rattle.std.specs.Prelude.{Bool, ◌&&◌, ◌||◌, cond, not, List, [], ◌∷◌, ℕ, eqb, leb, length, Result, Ok, Err}
 use Rattle.std.proofs.Math.Option.{none, some}
 use Rattle.netlist.specs.Answer.{Answer, Outcome, Test, answered, outcome, refusal, refused}
 use Rattle.circuit.specs.Fault.{StuckLines, circuit_exists, lines_in}
@@ -7,7 +7,8 @@ use Rattle.gates.specs.Kind.{gate, is_flip_flop, is_given}
 use Rattle.values.specs.Lists.{at, build, every, indexed, table}
 use Rattle.netlist.specs.Netlist.{Net, net_of, reading}
 use Rattle.gates.specs.Value.{stuck_or}
-use Rattle.simulator.specs.declared.clock.Stepped.{Stepped}
+use Rattle.netlist.specs.Refusal.{number_of_refusal}
+use Rattle.netlist.specs.declared.refusal.Refusal.{Refusal}
 use Rattle.circuit.specs.declared.fault.Circuit.{Circuit}
 
 module _ (net : Net) (s : StuckLines) where
@@ -79,6 +80,6 @@ simulation a =
     ]
 
 -- the cases of the simulator's answer, in 01's terms
-abbrev pub stepped_says : Stepped → Answer
-stepped_says Stepped.Done = done
-stepped_says (Stepped.Refused k) = refused k
+abbrev pub stepped_says : Result (Unit {0}) Refusal → Answer
+stepped_says (Ok tt) = done
+stepped_says (Err refusal) = refused (number_of_refusal refusal)

@@ -1,17 +1,16 @@
 // One clock step of a circuit, good or faulty.
-ghost use Rattle.std.specs.Prelude.{◌≡◌, ◌*◌, ◌+◌, ◌<◌, suc, ℕ, eqb, drop, set, cond, true};
+ghost use Rattle.std.specs.Prelude.{◌≡◌, ◌*◌, ◌+◌, ◌<◌, ℕ, List, length, set, true};
 ghost use Rattle.values.specs.Lists.{at, every};
-ghost use Rattle.netlist.specs.Netlist.{kind_of, length_of, net_of, node_count, offset_of, source_of};
-ghost use Rattle.gates.specs.Kind.{function_of, gate, join_of};
-ghost use Rattle.gates.specs.Value.{stuck_or};
+ghost use Rattle.netlist.specs.Netlist.{kind_of, length_of, net_of, node_count, offset_of};
+ghost use Rattle.gates.specs.Kind.{function_of, gate, join_of, rule_of};
 ghost use Rattle.circuit.specs.Fault.{lines_in};
 ghost use Rattle.netlist.specs.Answer.{outcome};
 ghost use Rattle.simulator.specs.Clock.{pin_values, seen_by, latched_by, place_fits, slices_fit, simulator_call, simulation, stepped_says};
 ghost use Rattle.simulator.specs.Inner.Places.{settled, latched_into};
 
-use circuit::{Circuit, NOT_STUCK, circuit_exists, stuck_node, stuck_or, stuck_pin};
-use gates::{FLIP_FLOP, Gate, inverted_if, is_given, join_of, rule_of, unit_of};
-use netlist::{Reading, kind_of, length_of, pins_place, read, refusal_number, source_at};
+use circuit::{Circuit, circuit_exists, stuck_or};
+use gates::{Gate, Kind, Rule, UNKNOWN, inverted_if, join_of, unit_of};
+use netlist::{Refusal, is_given, is_of_kind, length_of, pins_place, read, rule_of, source_at};
 use values::{byte_at, store};
 
 // The most pins that are few; no answer depends on it. Few pins have a loop of their own: where one loop
@@ -19,94 +18,73 @@ use values::{byte_at, store};
 // instructions more.
 const FEW_PINS: u16 = 8;
 
-// The simulator's answer: the clock step is done, or the refusal's number.
+// A node of a circuit, and the seen values that its pins read from.
 #[derive(Clone, Copy)]
-pub enum Stepped {
-    Done,
-    Refused(u8),
+struct Node<'a> {
+    netlist: &'a [u8],
+    circuit: Circuit,
+    seen: &'a [u8],
+    number: u16,
 }
 
-// What a node's pin reads, where the node's pins stand at the place.
-#[tactic(auto, using(netlist::proofs::NetlistLaws::source_place))]
-fn pin_value(netlist: &[u8], place: u32, circuit: Circuit, seen: &[u8], node: u16, pin: u16) -> u8
-    requires { place ≡ 4 + 5 * node_count netlist.now + 2 * offset_of netlist.now node }
-    ensures { result ≡ stuck_or ((lines_in circuit).pin node pin) (at seen.now (source_of netlist.now node pin)) }
-{
-    let source = source_at(netlist, place, pin) as usize;
-    let value = byte_at(seen, source);
-    stuck_or(stuck_pin(circuit, node, pin), value)
-}
-
-// What a pin reads, where the assumed pin is taken to read the assumption.
-fn assumed_value(
-    netlist: &[u8],
+// A node's pins: their sources stand from the place on.
+#[derive(Clone, Copy)]
+struct Pins<'a> {
+    node: Node<'a>,
     place: u32,
-    circuit: Circuit,
-    seen: &[u8],
-    node: u16,
-    pin: u16,
-    assumed: u16,
-    assumption: u8,
-) -> u8
-    requires { place ≡ 4 + 5 * node_count netlist.now + 2 * offset_of netlist.now node }
-    ensures { result ≡ cond (eqb pin assumed) assumption (stuck_or ((lines_in circuit).pin node pin) (at seen.now (source_of netlist.now node pin))) }
-{
-    if pin == assumed {
-        return assumption;
-    }
-    pin_value(netlist, place, circuit, seen, node, pin)
+    ghost placed: { place ≡ 4 + 5 * node_count node.netlist.now + 2 * offset_of node.netlist.now node.number },
 }
 
-// A gate's function of a node's pins from this pin on, where the value is that of the pins behind it and
-// the assumed pin is taken to read the assumption.
-#[tactic(auto, using(crate::proofs::PinLaws::assumed_pins, crate::proofs::PinLaws::length_assumed, crate::proofs::PinLaws::assumed_at, crate::proofs::PinLaws::function_front))]
-fn joined_from(
-    netlist: &[u8],
-    place: u32,
-    circuit: Circuit,
-    seen: &[u8],
-    node: u16,
-    pin: u16,
+// The same pins, one of which is taken to read the assumption, whatever it reads.
+#[derive(Clone, Copy)]
+struct AssumedPins<'a> {
+    pins: Pins<'a>,
     assumed: u16,
     assumption: u8,
-    gate: Gate,
-    value: u8,
-) -> u8
-    requires place_value { place ≡ 4 + 5 * node_count netlist.now + 2 * offset_of netlist.now node }
-    requires pin_in_bounds { pin < length_of netlist.now node }
-    requires value_value { value ≡ function_of gate (drop (suc pin) (set (pin_values (net_of netlist.now) (lines_in circuit) (at seen.now) node) assumed assumption)) }
-    ensures { result ≡ function_of gate (drop pin (set (pin_values (net_of netlist.now) (lines_in circuit) (at seen.now) node) assumed assumption)) }
-{
-    let read = assumed_value(
-        netlist, place, circuit, seen, node, pin, assumed, assumption,
-    );
-    join_of(gate, read, value)
 }
 
-// A gate's function of a node's few pins, where the assumed pin is taken to read the assumption. All
-// values are joined, from the last pin on.
-#[tactic(auto, using(crate::proofs::PinLaws::JoinedFrom, crate::proofs::PinLaws::joined_behind))]
-fn function_of_few(
-    netlist: &[u8],
-    circuit: Circuit,
-    seen: &[u8],
-    node: u16,
-    gate: Gate,
-    assumed: u16,
-    assumption: u8,
-) -> u8
-    ensures { result ≡ function_of gate (set (pin_values (net_of netlist.now) (lines_in circuit) (at seen.now) node) assumed assumption) }
-{
-    let place = pins_place(netlist, node);
-    let mut value = unit_of(gate);
-    let mut pin = length_of(netlist, node);
-    while 0 < pin {
-        pin -= 1;
-        value = joined_from(
-            netlist, place, circuit, seen, node, pin, assumed, assumption, gate, value,
-        );
+// What a gate's function is made of: the values that a node's pins read, in their order.
+trait PinValues {
+    ghost values: { Self → List ℕ };
+
+    fn count(&self) -> u16
+        ensures { result ≡ length (values self.now) };
+
+    fn value(&self, pin: u16) -> u8
+        requires { pin < length (values self.now) }
+        ensures { result ≡ at (values self.now) pin };
+}
+
+impl PinValues for Pins<'_> {
+    ghost values = { λ p. let n = p.node in pin_values (net_of n.netlist.now) (lines_in n.circuit) (at n.seen.now) n.number };
+
+    #[tactic(auto, using(crate::proofs::PinLaws::pin_laws))]
+    fn count(&self) -> u16 {
+        length_of(self.node.netlist, self.node.number)
     }
-    value
+
+    #[tactic(auto, using(crate::proofs::PinLaws::pin_laws, netlist::proofs::NetlistLaws::source_place))]
+    fn value(&self, pin: u16) -> u8 {
+        let node = self.node;
+        let source = source_at(node.netlist, self.place, pin) as usize;
+        let value = byte_at(node.seen, source);
+        stuck_or(node.circuit.stuck_pin(node.number, pin), value)
+    }
+}
+
+impl<'a> PinValues for AssumedPins<'a> {
+    ghost values = { λ p. set (⟦<Pins<'a> as PinValues>⟧.values p.pins) p.assumed p.assumption };
+
+    fn count(&self) -> u16 {
+        self.pins.count()
+    }
+
+    fn value(&self, pin: u16) -> u8 {
+        if pin == self.assumed {
+            return self.assumption;
+        }
+        self.pins.value(pin)
+    }
 }
 
 // True only where a gate's value stays whatever the pins in front read: an AND's 0, an OR's 1. Where it is
@@ -121,34 +99,80 @@ fn value_stays(gate: Gate, value: u8) -> bool
     }
 }
 
-// A gate's function of a node's many pins, as `function_of_few` gives it. Pins in front of a value that
-// stays are not looked at.
-#[tactic(auto, using(crate::proofs::PinLaws::JoinedFrom, crate::proofs::PinLaws::joined_behind))]
-fn function_of_many(
-    netlist: &[u8],
-    circuit: Circuit,
-    seen: &[u8],
-    node: u16,
-    gate: Gate,
-    assumed: u16,
-    assumption: u8,
-) -> u8
-    ensures { result ≡ function_of gate (set (pin_values (net_of netlist.now) (lines_in circuit) (at seen.now) node) assumed assumption) }
+// A gate's function of pins' values, which are joined from the last pin on. Where it stops early, pins in
+// front of a value that stays are not looked at.
+fn function_of<const STOPS: bool, P: PinValues>(pins: &P, gate: Gate) -> u8
+    ensures { result ≡ function_of gate (P.values pins.now) }
 {
-    let place = pins_place(netlist, node);
     let mut value = unit_of(gate);
-    let mut pin = length_of(netlist, node);
-    while 0 < pin && !value_stays(gate, value) {
-        pin -= 1;
-        value = joined_from(
-            netlist, place, circuit, seen, node, pin, assumed, assumption, gate, value,
-        );
+    for pin in (0..pins.count()).rev() {
+        if STOPS && value_stays(gate, value) {
+            return value;
+        }
+        let read = pins.value(pin);
+        value = join_of(gate, read, value);
     }
     value
 }
 
+// What a node of a kind with this rule makes of its pins' values.
+#[tactic(auto, unfolding(gates::specs::Kind::gate))]
+fn gate_of<P: PinValues>(rule: Rule, pins: &P) -> u8
+    ensures { (k : ℕ) → rule ≡ rule_of k → result ≡ gate k (P.values pins.now) }
+{
+    let value = if FEW_PINS < pins.count() {
+        function_of::<true, P>(pins, rule.gate)
+    } else {
+        function_of::<false, P>(pins, rule.gate)
+    };
+    inverted_if(rule.inverted, value)
+}
+
+impl<'a> Node<'a> {
+    fn rule(&self) -> Rule
+        ensures { result ≡ rule_of (kind_of self.now.netlist.now self.now.number) }
+    {
+        rule_of(self.netlist, self.number)
+    }
+
+    fn pins(&self) -> Pins<'a>
+        ensures { result.node ≡ self.now }
+    {
+        Pins {
+            node: *self,
+            place: pins_place(self.netlist, self.number),
+        }
+    }
+
+    // The node's seen value, from its own place and its sources' places.
+    #[tactic(auto, using(crate::proofs::ClockLaws::seen_cases), unfolding(netlist::specs::Netlist::net_of))]
+    fn seen_value(&self) -> u8
+        ensures { let n = self.now in result ≡ seen_by (net_of n.netlist.now) (lines_in n.circuit) (at n.seen.now) (at n.seen.now) n.number }
+    {
+        match self.circuit.stuck_node(self.number) {
+            Some(stuck) if stuck < UNKNOWN => stuck,
+            _ if is_given(self.netlist, self.number) => byte_at(self.seen, self.number as usize),
+            _ => gate_value(self.netlist, self.circuit, self.seen, self.number),
+        }
+    }
+
+    // What the node latches: what a flip-flop's pin reads, 0 at other nodes.
+    #[tactic(auto, unfolding(crate::specs::Clock::latched_by, netlist::specs::Netlist::net_of))]
+    fn latched_value(&self) -> u8
+        ensures { let n = self.now in result ≡ latched_by (net_of n.netlist.now) (lines_in n.circuit) (at n.seen.now) n.number }
+    {
+        if !is_of_kind(self.netlist, self.number, Kind::FlipFlop) {
+            return 0;
+        }
+        let pins = self.pins();
+        if pins.count() == 0 {
+            return 0;
+        }
+        pins.value(0)
+    }
+}
+
 // What a node makes of its pins' values, where the assumed pin is taken to read the assumption.
-#[tactic(auto, using(crate::proofs::PinLaws::assumed_pins), unfolding(gates::specs::Kind::gate))]
 pub fn gate_assuming(
     netlist: &[u8],
     circuit: Circuit,
@@ -159,36 +183,32 @@ pub fn gate_assuming(
 ) -> u8
     ensures { result ≡ gate (kind_of netlist.now node) (set (pin_values (net_of netlist.now) (lines_in circuit) (at seen.now) node) assumed assumption) }
 {
-    let rule = rule_of(kind_of(netlist, node));
-    let gate = rule.gate;
-    let value = if FEW_PINS < length_of(netlist, node) {
-        function_of_many(netlist, circuit, seen, node, gate, assumed, assumption)
-    } else {
-        function_of_few(netlist, circuit, seen, node, gate, assumed, assumption)
+    let node = Node {
+        netlist,
+        circuit,
+        seen,
+        number: node,
     };
-    inverted_if(rule.inverted, value)
+    let pins = AssumedPins {
+        pins: node.pins(),
+        assumed,
+        assumption,
+    };
+    gate_of(node.rule(), &pins)
 }
 
-// What a node makes of its pins' values. No node has a pin of the number 65,535, so nothing is assumed.
+// What a node makes of its pins' values. No method of Node: its parts pass in registers, where a node passes
+// through memory, which cost 15 instructions a call.
 pub fn gate_value(netlist: &[u8], circuit: Circuit, seen: &[u8], node: u16) -> u8
     ensures { result ≡ gate (kind_of netlist.now node) (pin_values (net_of netlist.now) (lines_in circuit) (at seen.now) node) }
 {
-    gate_assuming(netlist, circuit, seen, node, 65535, 0)
-}
-
-// The seen value of a node, from its own place and its sources' places.
-#[tactic(auto, unfolding(netlist::specs::Netlist::net_of))]
-fn seen_value(netlist: &[u8], circuit: Circuit, seen: &[u8], node: u16) -> u8
-    ensures { result ≡ seen_by (net_of netlist.now) (lines_in circuit) (at seen.now) (at seen.now) node }
-{
-    let stuck = stuck_node(circuit, node);
-    if stuck < NOT_STUCK {
-        return stuck;
-    }
-    if is_given(kind_of(netlist, node)) {
-        return byte_at(seen, node as usize);
-    }
-    gate_value(netlist, circuit, seen, node)
+    let node = Node {
+        netlist,
+        circuit,
+        seen,
+        number: node,
+    };
+    gate_of(node.rule(), &node.pins())
 }
 
 // Puts the seen values of the first n nodes into their places, by rising node number: each from its
@@ -197,26 +217,16 @@ fn seen_value(netlist: &[u8], circuit: Circuit, seen: &[u8], node: u16) -> u8
 pub fn settle(netlist: &[u8], n: u16, circuit: Circuit, first: &mut [u8])
     ensures { first.new ≡ settled (net_of netlist.now) (lines_in circuit) n first.old }
 {
-    let mut node: u16 = 0;
-    while node < n {
-        let value = seen_value(netlist, circuit, first, node);
-        store(first, node as usize, value);
-        node += 1;
+    for number in 0..n {
+        let node = Node {
+            netlist,
+            circuit,
+            seen: first,
+            number,
+        };
+        let value = node.seen_value();
+        store(first, number as usize, value);
     }
-}
-
-// What a node latches: what a flip-flop's pin reads, 0 at other nodes.
-#[tactic(auto, unfolding(crate::specs::Clock::latched_by, netlist::specs::Netlist::net_of))]
-fn latched_value(netlist: &[u8], circuit: Circuit, seen: &[u8], node: u16) -> u8
-    ensures { result ≡ latched_by (net_of netlist.now) (lines_in circuit) (at seen.now) node }
-{
-    if kind_of(netlist, node) != FLIP_FLOP {
-        return 0;
-    }
-    if length_of(netlist, node) == 0 {
-        return 0;
-    }
-    pin_value(netlist, pins_place(netlist, node), circuit, seen, node, 0)
 }
 
 // Puts what each of the first n nodes latches into its place.
@@ -224,11 +234,15 @@ fn latched_value(netlist: &[u8], circuit: Circuit, seen: &[u8], node: u16) -> u8
 pub fn latch(netlist: &[u8], n: u16, circuit: Circuit, seen: &[u8], second: &mut [u8])
     ensures { second.new ≡ latched_into (net_of netlist.now) (lines_in circuit) (at seen.now) n second.old }
 {
-    let mut node: u16 = 0;
-    while node < n {
-        let value = latched_value(netlist, circuit, seen, node);
-        store(second, node as usize, value);
-        node += 1;
+    for number in 0..n {
+        let node = Node {
+            netlist,
+            circuit,
+            seen,
+            number,
+        };
+        let value = node.latched_value();
+        store(second, number as usize, value);
     }
 }
 
@@ -237,25 +251,17 @@ pub fn latch(netlist: &[u8], n: u16, circuit: Circuit, seen: &[u8], second: &mut
 fn place_fits(netlist: &[u8], first: &[u8], node: u16) -> bool
     ensures { result ≡ place_fits (net_of netlist.now) first.now node }
 {
-    !is_given(kind_of(netlist, node)) || byte_at(first, node as usize) <= 1
+    !is_given(netlist, node) || byte_at(first, node as usize) <= 1
 }
 
-#[tactic(auto, using(values::proofs::ListLaws::every_more, values::proofs::ListLaws::every_fails), unfolding(values::specs::Lists::every))]
 fn places_fit(netlist: &[u8], n: u16, first: &[u8]) -> bool
     ensures { result ≡ every (place_fits (net_of netlist.now) first.now) n }
 {
-    let mut node: u16 = 0;
-    while node < n {
-        if !place_fits(netlist, first, node) {
-            return false;
-        }
-        node += 1;
-    }
-    true
+    (0..n).all(|node| place_fits(netlist, first, node))
 }
 
 // Both slices have a place for each node, and the places that are read hold 0 or 1.
-#[tactic(auto, using(crate::proofs::SimulatorLaws::slices_places))]
+#[tactic(auto, using(crate::proofs::SimulatorLaws::slices_parts))]
 fn slices_fit(netlist: &[u8], n: u16, first: &[u8], second: &[u8]) -> bool
     requires { n ≡ (net_of netlist.now).size }
     ensures { result ≡ slices_fit (net_of netlist.now) first.now second.now }
@@ -266,20 +272,27 @@ fn slices_fit(netlist: &[u8], n: u16, first: &[u8], second: &[u8]) -> bool
 // One clock step. Once it is done the first slice holds the seen values, the second what is latched;
 // a refusal alters neither.
 #[tactic(auto, using(netlist::proofs::RefusalLaws::fails_here, netlist::proofs::RefusalLaws::fails_later, crate::proofs::SimulatorLaws::slices_fitting, crate::proofs::SimulatorLaws::step_halves))]
-pub fn simulate(netlist: &[u8], circuit: Circuit, first: &mut [u8], second: &mut [u8]) -> Stepped
+pub fn simulate(
+    netlist: &[u8],
+    circuit: Circuit,
+    first: &mut [u8],
+    second: &mut [u8],
+) -> Result<(), Refusal>
     ensures { outcome (stepped_says result) first.new second.new ≡ simulation (simulator_call netlist.now circuit first.old second.old) }
 {
+    // by let .. else, as document 01 asks
     let answer = read(netlist);
-    let Reading::Sound(n, _) = answer else {
-        return Stepped::Refused(refusal_number(answer));
+    let Ok(size) = answer else {
+        return Err(answer.unwrap_err());
     };
+    let n = size.nodes;
     if !circuit_exists(netlist, circuit) {
-        return Stepped::Refused(9);
+        return Err(Refusal::NoSuchFault);
     }
     if !slices_fit(netlist, n, first, second) {
-        return Stepped::Refused(16);
+        return Err(Refusal::SlicesUnfit);
     }
     settle(netlist, n, circuit, first);
     latch(netlist, n, circuit, first, second);
-    Stepped::Done
+    Ok(())
 }

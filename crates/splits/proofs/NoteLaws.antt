@@ -30,3 +30,6 @@ module _ (values : List ℕ) (c : ℕ) (before notes : List ℕ) (p : ℕ) where
     where
       old : at notes p ≡ note_over values c notes p
       old = rw (le-ltb _ _ h)
+
+-- both, for the walk over the places
+pub ruleset notes = (noted-value, noted-none)

@@ -13,19 +13,17 @@ pub const NOTE_UNIT: u8 = 4;
 const WINDOWS: u8 = MOST_FRAMES as u8;
 
 // Notes each value of a set in the window of c, by c + 1 at its place. The guessed values stay.
-#[tactic(auto, unfolding(crate::specs::Inner::NoteBytes::noted_with, values::specs::Inner::Rewriting::rewritten))]
+#[tactic(auto, using(crate::proofs::NoteLaws::notes), unfolding(crate::specs::Inner::NoteBytes::noted_with, values::specs::Inner::Rewriting::rewritten))]
 pub fn note_known(known: &[u8], c: u8, noted: &mut [u8])
     ensures { noted.new ≡ noted_with known.now c noted.old }
 {
     if c >= WINDOWS {
         return;
     }
-    let mut place: usize = 0;
-    while place < known.len() {
+    for place in 0..known.len() {
         if values::byte_at(known, place) < UNKNOWN {
             let guess = values::byte_at(noted, place) % NOTE_UNIT;
             values::store(noted, place, guess + NOTE_UNIT * (c + 1));
         }
-        place += 1;
     }
 }

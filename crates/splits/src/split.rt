@@ -3,8 +3,9 @@ ghost use Rattle.std.specs.Prelude.{◌≡◌, leb};
 ghost use Rattle.splits.specs.Split.{split};
 ghost use Rattle.splits.specs.Inner.Next.{next_split};
 
-// A node at a frame of the window whose fault frame is c.
-#[derive(Clone, Copy)]
+// A node at a frame of the window whose fault frame is c. Splits are ordered as they are tried: by c, then
+// frame, then node.
+#[derive(Clone, Copy, Debug, PartialEq, Eq, PartialOrd, Ord)]
 pub struct Split {
     pub c: u8,
     pub frame: u8,
@@ -36,9 +37,7 @@ impl Split {
     pub fn next(self, n: u16, f: u8) -> Split
         ensures { result ≡ next_split n f self }
     {
-        let c = self.c;
-        let frame = self.frame;
-        let node = self.node;
+        let Split { c, frame, node } = self;
         if c as u16 + f as u16 >= 255 {
             return self;
         }

@@ -21,7 +21,7 @@ use Rattle.netlist.specs.Netlist.{Net}
 use Rattle.gates.specs.Value.{differ, is_unknown, neg, stuck_or}
 use Rattle.knowledge.specs.Window.{conclusion, output_conclusion, pin_conclusion, pin_frame}
 use Rattle.sweeps.proofs.StillLaws.{bytes_count, line_is, line_moves, line_unmoved, tried}
-use Rattle.sweeps.proofs.WorkLaws.{line-closed, line-old, line-silent, made}
+use Rattle.sweeps.proofs.WorkLaws.{pins-tally, line-closed, line-old, line-silent, made}
 use Rattle.sweeps.specs.Sweeps.{says_nothing, try_line}
 use Rattle.sweeps.specs.Inner.Work.{Work, in_bytes, take_in}
 
@@ -165,3 +165,8 @@ module _ (net : Net) (S : ℕ → StuckLines) where
 
     pub pin-still : (k : ℕ) → (try_line (in_bytes net.size) net S n t k y).steps ≡ x.steps → try_line (in_bytes net.size) net S n t k y ≡ x
     pin-still k e = let g = line_grows n t k y in line-still n t k y (omega arith) ∙ still (omega arith)
+
+-- the output's line, and the walk over the pins behind it
+pub ruleset output_line = (line_grows, settled-after)
+
+pub ruleset pin_walk = (pin_grows, pin-still, pins-tally, settled_stays)

@@ -13,4 +13,5 @@ pub mod Earlier
 pub mod TrialLaws
 pub mod KeptLaws
 pub mod GuessLaws
+pub mod BranchLaws
 pub mod PartLaws

@@ -26,6 +26,7 @@ use Rattle.knowledge.specs.Window.{known, present_below, most_frames}
 use Rattle.certificate.specs.Certificate.{head_length}
 use Rattle.trace.specs.Inner.Tracing.{Traced, tracing}
 use Rattle.sweeps.proofs.GuessLaws.{held_all, held_nowhere}
+use Rattle.sweeps.proofs.WorkLaws.{open_tally}
 use Rattle.sweeps.specs.Inner.Trials.{Tried, certified, certifying, following, has_held, last_branch, noting, noting_open, opening, work_fits, swept_once, tried, trying, window_bytes, window_stands}
 use Rattle.splits.specs.Inner.NoteBytes.{noted_with}
 use Rattle.sweeps.specs.Inner.Work.{HasHeld, Work}
@@ -169,6 +170,13 @@ module _ (N : ℕ) (f : Fault) (c : ℕ) (values : List ℕ) where
   unfolding has_held
   has_all have = sym (or_second (is_unknown stuck) (every has c) (every-by has c (λ t h. eq-eqb _ _ (have t h))))
 
+  -- every frame below c is looked at
+  pub has_by_frames : (u : ℕ) → u ≡ stuck → u < 2 → (r : Bool) → r ≡ every (λ t. eqb (at values (t * N + f.node)) u) c → r ≡ has_held N f c values
+  unfolding has_held
+  has_by_frames u same low r e =
+      let h : stuck < 2 = omega arith in
+      rw (known-low stuck h) (e ∙ ap (λ (x : ℕ). every (λ t. eqb (at values (t * N + f.node)) x) c) same)
+
   pub has-held : has_held N f c values ≡ true → HasHeld N f c values
   unfolding has_held
   has-held e = go (is_unknown stuck) refl
@@ -192,6 +200,9 @@ slices_fit_says N c F values touched e =
     let w = leb (c + F + 1) most_frames in
     let r = and_right w (v && m) e in
     (leb-true _ _ (and_left w (v && m) e), eqb-true _ _ (and_left v m r), eqb-true _ _ (and_right v m r))
+
+-- slices that fit, and the first tally in them
+pub ruleset fitting_laws = (slices_fit_says, open_tally)
 
 module _ (net : Net) (f : Fault) (c F : ℕ) (w : Work) (touched : List ℕ) where
   -- a sweep has made a step

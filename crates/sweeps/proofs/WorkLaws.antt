@@ -297,3 +297,11 @@ module _ (net : Net) (S : ℕ → StuckLines) where
     pub goes_on : x.closed ≡ false → (x.steps ≡ w.steps → ⊥) → sweeps (in_bytes net.size) net S W m x ≡ sweeps (in_bytes net.size) net S W (suc m) w
     unfolding went
     goes_on e d = ap (sweeps (in_bytes net.size) net S W m) is ∙ sym (sweeps_are false (λ j. e j || ne_eqb x.steps w.steps d j))
+
+-- one line, by the ways out of it, and the relations at a frame
+pub ruleset lines = (line-closed, line-silent, line-old, line-new, steps-below)
+
+pub ruleset relations = (relations_closed, relations_tally)
+
+-- one relation: its output's line, and those of its pins
+pub ruleset one_relation = (line-tally, relation_idle, relation_output)

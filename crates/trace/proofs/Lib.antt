@@ -4,3 +4,4 @@ pub mod TraceLaws
 pub mod TouchedLaws
 pub mod TraceMonotone
 pub mod TraceSoundness
+pub mod NodeLaws

@@ -1,373 +1,244 @@
 // The effect trace: which lines may show the fault's effect, frame by frame from c on. What is touched
-// in one frame lies in the first n bytes of the lent slice, 1 for a touched node and 0 for another.
-ghost use Rattle.std.specs.Prelude.{◌≡◌, ◌&&◌, ◌++◌, [], ◌*◌, ◌+◌, ◌≤◌, drop, length, replicate, take};
-ghost use Rattle.circuit.specs.Fault.{lines_in, lines_of};
+// in one frame lies in a slice with a byte for each node: 1 for a touched node and 0 for another. Such a
+// byte is handed on as it stands, so what a pin or a node has is a byte too.
+ghost use Rattle.std.specs.Prelude.{◌≡◌, ◌++◌, [], ◌*◌, ◌+◌, ◌≤◌, drop, length, replicate, take};
+ghost use Rattle.circuit.specs.Fault.{lines_of, stuck_value};
 ghost use Rattle.gates.specs.Kind.{gate};
 ghost use Rattle.values.specs.Lists.{at, every};
 ghost use Rattle.netlist.specs.Netlist.{kind_of, net_of, source_of};
 ghost use Rattle.knowledge.specs.Inner.Slice.{known_in};
-ghost use Rattle.trace.specs.Trace.{effect_dies, gate_touched, latched_touched, latched_touched_list, latched_untouched, touched_list, node_touched, output_untouched, pin_touched, pins_touched, site_touched, some_touched, untouched_value, untouched_values};
-ghost use Rattle.trace.specs.Inner.Tracing.{traced, tracing};
+ghost use Rattle.trace.specs.Trace.{effect_dies, gate_touched, latched_touched, latched_touched_list, latched_untouched, touched_list, node_touched};
+ghost use Rattle.trace.specs.Trace.{one_if, output_untouched, pin_touched, pins_touched, site_touched, some_touched, untouched_value, untouched_values};
+ghost use Rattle.trace.specs.Inner.Tracing.{frame_known, frame_lines, frame_net, traced, tracing, window_known, window_net};
 
-use circuit::{Circuit, Fault, NOT_STUCK};
-use gates::{FLIP_FLOP, OUTPUT, UNKNOWN};
+use circuit::{Circuit, Fault};
+use gates::{Kind, UNKNOWN};
 use knowledge::place_of;
 
 // A faulted line is touched unless its value is known to be the stuck one; any other as it is said.
-fn site_touched(stuck: u8, value: u8, otherwise: u8) -> u8
-    ensures { result ≡ site_touched stuck value otherwise }
+fn site_touched(stuck: Option<u8>, value: u8, otherwise: u8) -> u8
+    ensures { result ≡ site_touched (stuck_value stuck) value otherwise }
 {
-    if stuck >= NOT_STUCK {
-        return otherwise;
+    match stuck {
+        Some(stuck) if stuck < UNKNOWN => (value != stuck) as u8,
+        _ => otherwise,
     }
-    if value == stuck { 0 } else { 1 }
 }
 
-// Whether a node below the limit is touched; no other node counts as touched.
-fn touched_below(touched: &[u8], limit: u16, node: u16) -> u8
-    ensures { result ≡ at (take limit touched.now) node }
-{
-    if node < limit {
-        return values::byte_at(touched, node as usize);
+// One frame: the circuit in it, and what is known there of each node.
+#[derive(Clone, Copy)]
+struct Frame<'a> {
+    netlist: &'a [u8],
+    circuit: Circuit,
+    values: &'a [u8],
+}
+
+impl Frame<'_> {
+    // A pin is touched if its source is, and a faulted one by the rule for faulted lines.
+    #[tactic(auto, unfolding(crate::specs::Trace::pin_touched))]
+    fn pin_touched(&self, touched: &[u8], node: u16, pin: u16, source: u16) -> u8
+        ensures { result ≡ pin_touched (frame_net self.now) (frame_lines self.now) (frame_known self.now) (at touched.now) node pin source }
+    {
+        let stuck = self.circuit.stuck_pin(node, pin);
+        let value = values::byte_at(self.values, source as usize);
+        site_touched(stuck, value, values::byte_at(touched, source as usize))
     }
-    0
-}
 
-// A pin is touched if its source is, and a faulted one by the rule for faulted lines.
-#[tactic(auto, unfolding(crate::specs::Trace::pin_touched))]
-fn pin_touched(
-    netlist: &[u8],
-    circuit: Circuit,
-    values: &[u8],
-    touched: &[u8],
-    limit: u16,
-    node: u16,
-    pin: u16,
-) -> u8
-    ensures { result ≡ pin_touched (net_of netlist.now) (lines_in circuit) (at values.now) (at (take limit touched.now)) node pin (source_of netlist.now node pin) }
-{
-    let source = netlist::source_of(netlist, node, pin);
-    let stuck = circuit::stuck_pin(circuit, node, pin);
-    let value = values::byte_at(values, source as usize);
-    site_touched(stuck, value, touched_below(touched, limit, source))
-}
+    // Whether one of a node's pins is touched. A call for each node took a tenth more instructions.
+    #[inline]
+    #[tactic(auto, using(crate::proofs::TouchedLaws::pins_none, crate::proofs::TouchedLaws::pins_more, crate::proofs::TouchedLaws::pins_some))]
+    fn some_pin_touched(&self, touched: &[u8], node: u16) -> bool
+        ensures { result ≡ some_touched (pins_touched (frame_net self.now) (frame_lines self.now) (frame_known self.now) (at touched.now) node) }
+    {
+        for pin in (0..netlist::length_of(self.netlist, node)).rev() {
+            let source = netlist::source_of(self.netlist, node, pin);
+            if self.pin_touched(touched, node, pin, source) != 0 {
+                return true;
+            }
+        }
+        false
+    }
 
-// Whether one of a node's pins is touched.
-#[tactic(auto, using(crate::proofs::TouchedLaws::some_at, crate::proofs::TouchedLaws::some_none, crate::proofs::TouchedLaws::some_more))]
-fn some_pin_touched(
-    netlist: &[u8],
-    circuit: Circuit,
-    values: &[u8],
-    touched: &[u8],
-    limit: u16,
-    node: u16,
-) -> bool
-    ensures { result ≡ some_touched (pins_touched (net_of netlist.now) (lines_in circuit) (at values.now) (at (take limit touched.now)) node) }
-{
-    let mut pin = netlist::length_of(netlist, node);
-    while 0 < pin {
-        pin -= 1;
-        if pin_touched(netlist, circuit, values, touched, limit, node, pin) != 0 {
-            return true;
+    // What a pin is known to read if it is untouched; a touched one is unknown.
+    fn untouched_value(&self, touched: &[u8], node: u16, pin: u16, source: u16) -> u8
+        ensures { result ≡ untouched_value (pin_touched (frame_net self.now) (frame_lines self.now) (frame_known self.now) (at touched.now) node pin source) (frame_known self.now source) }
+    {
+        if self.pin_touched(touched, node, pin, source) != 0 {
+            return UNKNOWN;
+        }
+        values::byte_at(self.values, source as usize)
+    }
+
+    // What a node makes of its untouched pins.
+    #[tactic(auto, using(crate::proofs::TouchedLaws::values_none, crate::proofs::TouchedLaws::values_more), unfolding(gates::specs::Kind::gate))]
+    fn untouched_gate(&self, touched: &[u8], node: u16) -> u8
+        ensures { result ≡ gate (kind_of self.now.netlist.now node) (untouched_values (frame_net self.now) (frame_lines self.now) (frame_known self.now) (at touched.now) node) }
+    {
+        let rule = netlist::rule_of(self.netlist, node);
+        let gate = rule.gate;
+        let mut value = gates::unit_of(gate);
+        for pin in (0..netlist::length_of(self.netlist, node)).rev() {
+            let source = netlist::source_of(self.netlist, node, pin);
+            let read = self.untouched_value(touched, node, pin, source);
+            value = gates::join_of(gate, read, value);
+        }
+        gates::inverted_if(rule.inverted, value)
+    }
+
+    // A node with a touched pin is touched unless its untouched pins settle its value.
+    #[tactic(auto, using(crate::proofs::TouchedLaws::gate_untouched, crate::proofs::TouchedLaws::gate_by), unfolding(netlist::specs::Netlist::net_of))]
+    fn gate_touched(&self, touched: &[u8], node: u16) -> bool
+        ensures { one_if result ≡ gate_touched (frame_net self.now) (frame_lines self.now) (frame_known self.now) (at touched.now) node }
+    {
+        self.some_pin_touched(touched, node) && UNKNOWN <= self.untouched_gate(touched, node)
+    }
+
+    // Whether a node is touched, where its own place holds what its flip-flop latched, and the places below
+    // it hold what is touched in this frame.
+    #[tactic(auto, unfolding(crate::specs::Trace::node_touched, netlist::specs::Netlist::net_of))]
+    fn node_touched(&self, touched: &[u8], node: u16) -> u8
+        requires { node ≤ length touched.now }
+        ensures { result ≡ node_touched (frame_net self.now) (frame_lines self.now) (frame_known self.now) (at touched.now) (at (take node touched.now)) node }
+    {
+        let stuck = self.circuit.stuck_node(node);
+        let value = values::byte_at(self.values, node as usize);
+        if netlist::is_of_kind(self.netlist, node, Kind::FlipFlop) {
+            return site_touched(stuck, value, values::byte_at(touched, node as usize));
+        }
+        if netlist::is_given(self.netlist, node) {
+            return site_touched(stuck, value, 0);
+        }
+        let touched_by_pins = self.gate_touched(&touched[..node as usize], node);
+        site_touched(stuck, value, touched_by_pins as u8)
+    }
+
+    // Puts into each node's place whether it is touched, by rising node number.
+    #[tactic(auto, using(crate::proofs::TouchedLaws::touched_turn, crate::proofs::TouchedLaws::touched_end), unfolding(netlist::specs::Netlist::net_of, values::specs::Lists::build))]
+    fn touch_nodes(&self, touched: &mut [u8])
+        requires { (frame_net self.now).size ≡ length touched.old }
+        ensures { touched.new ≡ touched_list (frame_net self.now) (frame_lines self.now) (frame_known self.now) (at touched.old) }
+    {
+        for node in 0..netlist::node_count(self.netlist) {
+            touched[node as usize] = self.node_touched(touched, node);
         }
     }
-    false
-}
 
-// What a pin is known to read if it is untouched; a touched one is unknown.
-fn untouched_value(
-    netlist: &[u8],
-    circuit: Circuit,
-    values: &[u8],
-    touched: &[u8],
-    limit: u16,
-    node: u16,
-    pin: u16,
-) -> u8
-    ensures { result ≡ untouched_value (pin_touched (net_of netlist.now) (lines_in circuit) (at values.now) (at (take limit touched.now)) node pin (source_of netlist.now node pin)) (at values.now (source_of netlist.now node pin)) }
-{
-    if pin_touched(netlist, circuit, values, touched, limit, node, pin) != 0 {
-        return UNKNOWN;
+    // Whether a node is no output, or an output that is not touched.
+    #[tactic(auto, unfolding(netlist::specs::Netlist::net_of))]
+    fn output_untouched(&self, touched: &[u8], node: u16) -> bool
+        ensures { result ≡ output_untouched (frame_net self.now) touched.now node }
+    {
+        !netlist::is_of_kind(self.netlist, node, Kind::Output)
+            || values::byte_at(touched, node as usize) == 0
     }
-    let source = netlist::source_of(netlist, node, pin);
-    values::byte_at(values, source as usize)
-}
 
-// What a node makes of its untouched pins.
-#[tactic(auto, using(simulator::proofs::PinLaws::function_none, simulator::proofs::PinLaws::function_more), unfolding(gates::specs::Kind::gate))]
-fn untouched_gate(
-    netlist: &[u8],
-    circuit: Circuit,
-    values: &[u8],
-    touched: &[u8],
-    limit: u16,
-    node: u16,
-) -> u8
-    ensures { result ≡ gate (kind_of netlist.now node) (untouched_values (net_of netlist.now) (lines_in circuit) (at values.now) (at (take limit touched.now)) node) }
-{
-    let rule = gates::rule_of(netlist::kind_of(netlist, node));
-    let gate = rule.gate;
-    let mut value = gates::unit_of(gate);
-    let mut pin = netlist::length_of(netlist, node);
-    while 0 < pin {
-        pin -= 1;
-        let read = untouched_value(netlist, circuit, values, touched, limit, node, pin);
-        value = gates::join_of(gate, read, value);
+    // Whether no output is touched.
+    #[tactic(auto, unfolding(netlist::specs::Netlist::net_of))]
+    fn outputs_untouched(&self, touched: &[u8]) -> bool
+        ensures { result ≡ every (output_untouched (frame_net self.now) touched.now) (frame_net self.now).size }
+    {
+        (0..netlist::node_count(self.netlist)).all(|node| self.output_untouched(touched, node))
     }
-    gates::inverted_if(rule.inverted, value)
-}
 
-// A node with a touched pin is touched unless its untouched pins settle its value.
-#[tactic(auto, using(crate::proofs::TouchedLaws::gate_untouched, crate::proofs::TouchedLaws::touched_unknown), unfolding(netlist::specs::Netlist::net_of))]
-fn gate_touched(
-    netlist: &[u8],
-    circuit: Circuit,
-    values: &[u8],
-    touched: &[u8],
-    limit: u16,
-    node: u16,
-) -> u8
-    ensures { result ≡ gate_touched (net_of netlist.now) (lines_in circuit) (at values.now) (at (take limit touched.now)) node }
-{
-    if !some_pin_touched(netlist, circuit, values, touched, limit, node) {
-        return 0;
+    // Whether a flip-flop is touched in the next frame: its pin is in this one. No other node is touched so.
+    #[tactic(auto, using(crate::proofs::TouchedLaws::not_latched, crate::proofs::TouchedLaws::latched_by), unfolding(netlist::specs::Netlist::net_of))]
+    fn latched_touched(&self, touched: &[u8], node: u16) -> bool
+        ensures { one_if result ≡ latched_touched (frame_net self.now) (frame_lines self.now) (frame_known self.now) (at touched.now) node }
+    {
+        netlist::is_of_kind(self.netlist, node, Kind::FlipFlop)
+            && self.some_pin_touched(touched, node)
     }
-    if untouched_gate(netlist, circuit, values, touched, limit, node) < UNKNOWN {
-        0
-    } else {
-        1
-    }
-}
 
-// Whether a node is touched, where its own place holds what its flip-flop latched, and the places below it
-// hold what is touched in this frame.
-#[tactic(auto, unfolding(crate::specs::Trace::node_touched, netlist::specs::Netlist::net_of))]
-fn node_touched(netlist: &[u8], circuit: Circuit, values: &[u8], touched: &[u8], node: u16) -> u8
-    ensures { result ≡ node_touched (net_of netlist.now) (lines_in circuit) (at values.now) (at touched.now) (at (take node touched.now)) node }
-{
-    let stuck = circuit::stuck_node(circuit, node);
-    let value = values::byte_at(values, node as usize);
-    let kind = netlist::kind_of(netlist, node);
-    if kind == FLIP_FLOP {
-        return site_touched(stuck, value, values::byte_at(touched, node as usize));
-    }
-    if gates::is_given(kind) {
-        return site_touched(stuck, value, 0);
-    }
-    site_touched(
-        stuck,
-        value,
-        gate_touched(netlist, circuit, values, touched, node, node),
-    )
-}
-
-// Puts into each node's place whether it is touched, by rising node number.
-#[tactic(auto, unfolding(crate::specs::Trace::touched_list))]
-fn touch_nodes(netlist: &[u8], n: u16, circuit: Circuit, values: &[u8], touched: &mut [u8])
-    requires n_value { n ≡ (net_of netlist.now).size }
-    requires n_in_bounds { n ≤ length touched.old }
-    ensures { touched.new ≡ touched_list (net_of netlist.now) (lines_in circuit) (at values.now) (at touched.old) ++ drop n touched.old }
-{
-    let mut node: u16 = 0;
-    while node < n {
-        let value = node_touched(netlist, circuit, values, touched, node);
-        values::store(touched, node as usize, value);
-        node += 1;
-    }
-}
-
-// Whether a flip-flop is touched in the next frame: its pin is in this one. No other node is touched so.
-#[tactic(auto, using(crate::proofs::TouchedLaws::not_latched), unfolding(netlist::specs::Netlist::net_of))]
-fn latched_touched(
-    netlist: &[u8],
-    n: u16,
-    circuit: Circuit,
-    values: &[u8],
-    touched: &[u8],
-    node: u16,
-) -> u8
-    ensures { result ≡ latched_touched (net_of netlist.now) (lines_in circuit) (at values.now) (at (take n touched.now)) node }
-{
-    if netlist::kind_of(netlist, node) != FLIP_FLOP {
-        return 0;
-    }
-    if some_pin_touched(netlist, circuit, values, touched, n, node) {
-        1
-    } else {
-        0
-    }
-}
-
-// Copies the second n bytes over the first.
-fn move_down(n: u16, touched: &mut [u8])
-    requires { n + n ≤ length touched.old }
-    ensures { take n touched.new ≡ take n (drop n touched.old) }
-{
-    let mut node: u16 = 0;
-    while node < n {
-        let value = values::byte_at(touched, n as usize + node as usize);
-        values::store(touched, node as usize, value);
-        node += 1;
-    }
-}
-
-// Puts what of the flip-flops is touched in the next frame into the first n bytes. It is worked out in
-// the second n bytes, since a flip-flop's source may be a flip-flop.
-#[tactic(auto, using(values::proofs::ListLaws::Filled, values::proofs::ListLaws::filled_more, values::proofs::ListLaws::filled_table), unfolding(crate::specs::Trace::latched_touched_list))]
-fn latch_touched(netlist: &[u8], n: u16, circuit: Circuit, values: &[u8], touched: &mut [u8])
-    requires n_value { n ≡ (net_of netlist.now).size }
-    requires n_in_bounds { n + n ≤ length touched.old }
-    ensures { take n touched.new ≡ latched_touched_list (net_of netlist.now) (lines_in circuit) (at values.now) (at (take n touched.old)) }
-{
-    let mut node: u16 = 0;
-    while node < n {
-        let value = latched_touched(netlist, n, circuit, values, touched, node);
-        values::store(touched, n as usize + node as usize, value);
-        node += 1;
-    }
-    move_down(n, touched);
-}
-
-// Whether a node is no output, or an output that is not touched.
-#[tactic(auto, unfolding(netlist::specs::Netlist::net_of))]
-fn output_untouched(netlist: &[u8], touched: &[u8], node: u16) -> bool
-    ensures { result ≡ output_untouched (net_of netlist.now) touched.now node }
-{
-    netlist::kind_of(netlist, node) != OUTPUT || values::byte_at(touched, node as usize) == 0
-}
-
-#[tactic(auto, using(crate::proofs::TouchedLaws::output_read, values::proofs::ListLaws::every_more, values::proofs::ListLaws::every_fails), unfolding(values::specs::Lists::every))]
-fn outputs_untouched(netlist: &[u8], n: u16, touched: &[u8]) -> bool
-    ensures { result ≡ every (output_untouched (net_of netlist.now) (take n touched.now)) n }
-{
-    let mut node: u16 = 0;
-    while node < n {
-        if !output_untouched(netlist, touched, node) {
-            return false;
+    // Puts the flip-flops touched in the next frame into the slice, which holds what is touched in this one.
+    // They are worked out in the next slice, since a flip-flop's source may be a flip-flop.
+    #[tactic(auto, using(values::proofs::ListLaws::filled_more, crate::proofs::TouchedLaws::latched_filled), unfolding(netlist::specs::Netlist::net_of))]
+    fn latch_touched(&self, touched: &mut [u8], next: &mut [u8])
+        requires touched_length { (frame_net self.now).size ≡ length touched.old }
+        requires next_length { (frame_net self.now).size ≤ length next.old }
+        ensures { touched.new ≡ latched_touched_list (frame_net self.now) (frame_lines self.now) (frame_known self.now) (at touched.old) }
+    {
+        let n = netlist::node_count(self.netlist);
+        for node in 0..n {
+            next[node as usize] = self.latched_touched(touched, node) as u8;
         }
-        node += 1;
+        touched.copy_from_slice(&next[..n as usize]);
     }
-    true
-}
 
-// Whether no flip-flop's pin is touched.
-#[tactic(auto, using(crate::proofs::TraceAgreement::latched_fails, crate::proofs::TraceAgreement::latched_law, values::proofs::ListLaws::every_more), unfolding(values::specs::Lists::every))]
-fn pins_untouched(netlist: &[u8], n: u16, circuit: Circuit, values: &[u8], touched: &[u8]) -> bool
-    requires { n ≡ (net_of netlist.now).size }
-    ensures { result ≡ every (latched_untouched (latched_touched_list (net_of netlist.now) (lines_in circuit) (at values.now) (at (take n touched.now)))) n }
-{
-    let mut node: u16 = 0;
-    while node < n {
-        if latched_touched(netlist, n, circuit, values, touched, node) != 0 {
-            return false;
-        }
-        node += 1;
+    // Whether no flip-flop's pin is touched.
+    #[tactic(auto, unfolding(netlist::specs::Netlist::net_of))]
+    fn pins_untouched(&self, touched: &[u8]) -> bool
+        ensures { result ≡ every (latched_untouched (latched_touched_list (frame_net self.now) (frame_lines self.now) (frame_known self.now) (at touched.now))) (frame_net self.now).size }
+    {
+        (0..netlist::node_count(self.netlist)).all(|node| !self.latched_touched(touched, node))
     }
-    true
 }
 
-// Puts what is touched in a frame into the first n bytes, which hold its touched flip-flops, and says
-// whether no output is touched.
-fn touch_frame(
-    netlist: &[u8],
-    n: u16,
-    circuit: Circuit,
-    known: &[u8],
-    frame: u16,
-    touched: &mut [u8],
-) -> bool
-    requires n_value { n ≡ (net_of netlist.now).size }
-    requires n_in_bounds { n ≤ length touched.old }
-    ensures touched_after { take n touched.new ≡ touched_list (net_of netlist.now) (lines_in circuit) (λ m. known_in known.now (net_of netlist.now).size m frame) (at (take n touched.old)) }
-    ensures value { result ≡ every (output_untouched (net_of netlist.now) (touched_list (net_of netlist.now) (lines_in circuit) (λ m. known_in known.now (net_of netlist.now).size m frame) (at (take n touched.old)))) (net_of netlist.now).size }
-{
-    let values = values::tail(known, place_of(n, 0, frame));
-    touch_nodes(netlist, n, circuit, values, touched);
-    outputs_untouched(netlist, n, touched)
-}
-
-// Puts the flip-flops touched in the next frame into the first n bytes, which hold what is touched in this one.
-fn latch_frame(
-    netlist: &[u8],
-    n: u16,
-    circuit: Circuit,
-    known: &[u8],
-    frame: u16,
-    touched: &mut [u8],
-)
-    requires n_value { n ≡ (net_of netlist.now).size }
-    requires n_in_bounds { n + n ≤ length touched.old }
-    ensures { take n touched.new ≡ latched_touched_list (net_of netlist.now) (lines_in circuit) (λ m. known_in known.now (net_of netlist.now).size m frame) (at (take n touched.old)) }
-{
-    let values = values::tail(known, place_of(n, 0, frame));
-    latch_touched(netlist, n, circuit, values, touched);
-}
-
-// Whether no flip-flop's pin is touched in a frame of the window, where the first n bytes hold what is.
-fn pins_untouched_at(
-    netlist: &[u8],
-    n: u16,
-    circuit: Circuit,
-    known: &[u8],
-    frame: u16,
-    touched: &[u8],
-) -> bool
-    requires { n ≡ (net_of netlist.now).size }
-    ensures { result ≡ every (latched_untouched (latched_touched_list (net_of netlist.now) (lines_in circuit) (λ m. known_in known.now (net_of netlist.now).size m frame) (at (take n touched.now)))) (net_of netlist.now).size }
-{
-    let values = values::tail(known, place_of(n, 0, frame));
-    pins_untouched(netlist, n, circuit, values, touched)
-}
-
-// Whether the effect dies, where the first n bytes hold the flip-flops touched at frame c.
-#[tactic(auto, using(crate::proofs::TouchedLaws::dies_open), unfolding(circuit::specs::Fault::lines_in))]
-fn dies_from(
-    netlist: &[u8],
-    n: u16,
+// A window: the fault whose effect may start at frame c, with f frames behind that one, and what is known,
+// frame by frame, a byte for each node.
+#[derive(Clone, Copy)]
+struct Window<'a> {
+    netlist: &'a [u8],
     fault: Fault,
     c: u8,
     f: u8,
-    known: &[u8],
-    touched: &mut [u8],
-) -> bool
-    requires n_value { n ≡ (net_of netlist.now).size }
-    requires f_in_bounds { n * (f + 1) ≤ length touched.old }
-    ensures { result ≡ effect_dies (net_of netlist.now) (known_in known.now (net_of netlist.now).size) f c (lines_of fault) (take n touched.old) }
-{
-    let mut circuit = Circuit::Faulty(fault);
-    let mut frame = c as u16;
-    let mut left = f;
-    while 0 < left {
-        if !touch_frame(netlist, n, circuit, known, frame, touched) {
-            return false;
-        }
-        latch_frame(netlist, n, circuit, known, frame, touched);
-        circuit = Circuit::Good;
-        frame += 1;
-        left -= 1;
-    }
-    touch_frame(netlist, n, circuit, known, frame, touched)
-        && pins_untouched_at(netlist, n, circuit, known, frame, touched)
+    known: &'a [u8],
 }
 
-// The same from the fault frame on, where no flip-flop is touched yet. The lent bytes are cleared afterwards.
-fn trace_window(
-    netlist: &[u8],
-    n: u16,
-    fault: Fault,
-    c: u8,
-    f: u8,
-    known: &[u8],
-    touched: &mut [u8],
-) -> bool
-    requires n_value { n ≡ (net_of netlist.now).size }
-    requires f_value { n * (f + 1) ≡ length touched.old }
-    ensures { traced result touched.new ≡ traced (effect_dies (net_of netlist.now) (known_in known.now (net_of netlist.now).size) f c (lines_of fault) []) (replicate (length touched.old) 0) }
-{
-    values::fill(touched, 0);
-    let dies = dies_from(netlist, n, fault, c, f, known, touched);
-    values::fill(touched, 0);
-    dies
+impl<'a> Window<'a> {
+    // A frame of the window, with the circuit that is in it.
+    #[tactic(auto, using(knowledge::proofs::WindowLaws::frame_values), unfolding(netlist::specs::Netlist::net_of))]
+    fn frame(&self, circuit: Circuit, frame: u16) -> Frame<'a>
+        ensures netlist { result.netlist.now ≡ self.now.netlist.now }
+        ensures circuit { result.circuit ≡ circuit }
+        ensures values { at result.values.now ≡ (λ m. window_known self.now m frame) }
+    {
+        let n = netlist::node_count(self.netlist);
+        Frame {
+            netlist: self.netlist,
+            circuit,
+            values: values::tail(self.known, place_of(n, 0, frame)),
+        }
+    }
+
+    // Whether the effect dies, where the first bytes, one for each node, hold the flip-flops touched at
+    // frame c.
+    #[tactic(auto, unfolding(netlist::specs::Netlist::net_of, circuit::specs::Fault::lines_in))]
+    fn dies_from(&self, touched: &mut [u8]) -> bool
+        requires { (window_net self.now).size * (self.now.f + 1) ≤ length touched.old }
+        ensures { result ≡ effect_dies (window_net self.now) (window_known self.now) self.now.f self.now.c (lines_of self.now.fault) (take (window_net self.now).size touched.old) }
+    {
+        let n = netlist::node_count(self.netlist) as usize;
+        let (now, next) = touched.split_at_mut(n);
+        let first = self.c as u16;
+        let last = first + self.f as u16;
+        let mut circuit = Circuit::Faulty(self.fault);
+        for t in first..last {
+            let frame = self.frame(circuit, t);
+            frame.touch_nodes(now);
+            if !frame.outputs_untouched(now) {
+                return false;
+            }
+            frame.latch_touched(now, next);
+            circuit = Circuit::Good;
+        }
+        let frame = self.frame(circuit, last);
+        frame.touch_nodes(now);
+        frame.outputs_untouched(now) && frame.pins_untouched(now)
+    }
+
+    // The same from the fault frame on, where no flip-flop is touched yet. The lent bytes are cleared
+    // afterwards.
+    #[tactic(auto, using(crate::proofs::TouchedLaws::dies_cleared))]
+    fn trace(&self, touched: &mut [u8]) -> bool
+        requires { (window_net self.now).size * (self.now.f + 1) ≡ length touched.old }
+        ensures value { result ≡ effect_dies (window_net self.now) (window_known self.now) self.now.f self.now.c (lines_of self.now.fault) [] }
+        ensures cleared { touched.new ≡ replicate (length touched.old) 0 }
+    {
+        touched.fill(0);
+        let dies = self.dies_from(touched);
+        touched.fill(0);
+        dies
+    }
 }
 
 // Whether the fault's effect dies: no output is touched from frame c on, and no flip-flop's pin in
@@ -375,7 +246,7 @@ fn trace_window(
 // the end counts as known to be 0, which no caller may lean on: it says nothing of the circuit, and
 // a window has a byte for each of its places. The last slice has to have a byte for each
 // node and each frame from c on; a shorter one stays as it is, and nothing is said to die.
-#[tactic(auto, unfolding(netlist::specs::Netlist::net_of))]
+#[tactic(auto, using(crate::proofs::TouchedLaws::tracing_short, crate::proofs::TouchedLaws::tracing_done), unfolding(netlist::specs::Netlist::net_of))]
 pub fn effect_dies(
     netlist: &[u8],
     fault: Fault,
@@ -386,10 +257,16 @@ pub fn effect_dies(
 ) -> bool
     ensures { traced result touched.new ≡ tracing (net_of netlist.now) (lines_of fault) c f (known_in known.now (net_of netlist.now).size) touched.old }
 {
-    let n = netlist::node_count(netlist);
-    let size = n as usize * (f as usize + 1);
+    let size = netlist::node_count(netlist) as usize * (f as usize + 1);
     if touched.len() < size {
         return false;
     }
-    trace_window(netlist, n, fault, c, f, known, &mut touched[..size])
+    let window = Window {
+        netlist,
+        fault,
+        c,
+        f,
+        known,
+    };
+    window.trace(&mut touched[..size])
 }

@@ -34,6 +34,8 @@ module _ (net : Net) (s : StuckLines) where
       let r = d ∙ (λ i. latched_into net s (at (q i)) (e i) l) in
       λ i. holding (q i) (r i)
 
+  pub ruleset clocks_by = (clocked-by)
+
   -- a clock of both circuits by its parts: z are the good circuit's inputs, copied from the faulty one's
   pub both_by : (f g a b : Held) (z : List ℕ) (r : Bool) → z ≡ sets g.values 0 f.values → a ≡ clocked net s f
       → b ≡ clocked net none_stuck (holding z g.latched) → r ≡ any (output_differs net a.values b.values) net.size

@@ -1,5 +1,6 @@
 // Clocks of a circuit on lent bytes, and of the faulty and the good circuit side by side. A clock is
-// given its inputs at the places of inputs, and leaves the seen values of all nodes.
+// given its inputs at the places of inputs, and leaves the seen values of all nodes. The two slices of a
+// circuit go side by side: as one struct that lends both on, the borrow checker had no proof of them.
 ghost use Rattle.std.specs.Prelude.{◌≡◌};
 ghost use Rattle.values.specs.Lists.{any};
 ghost use Rattle.simulator.specs.ClockLists.{clock_start};
@@ -8,7 +9,7 @@ ghost use Rattle.netlist.specs.Netlist.{net_of};
 ghost use Rattle.witness.specs.Inner.Clocks.{both_step, clocked, compared, holding, output_differs, started};
 
 use circuit::{Circuit, Fault};
-use gates::{FLIP_FLOP, OUTPUT};
+use gates::Kind;
 use values::{byte_at, copy, store};
 
 // What a clock step is given at a node's place: the latched value of a flip-flop, else what is there.
@@ -16,7 +17,7 @@ use values::{byte_at, copy, store};
 fn start_value(netlist: &[u8], latched: &[u8], values: &[u8], node: u16) -> u8
     ensures { result ≡ clock_start (net_of netlist.now) values.now latched.now node }
 {
-    if netlist::kind_of(netlist, node) == FLIP_FLOP {
+    if netlist::is_of_kind(netlist, node, Kind::FlipFlop) {
         byte_at(latched, node as usize)
     } else {
         byte_at(values, node as usize)
@@ -28,17 +29,15 @@ fn start_value(netlist: &[u8], latched: &[u8], values: &[u8], node: u16) -> u8
 fn start_clock(netlist: &[u8], n: u16, latched: &[u8], values: &mut [u8])
     ensures { values.new ≡ started (net_of netlist.now) latched.now n values.old }
 {
-    let mut node: u16 = 0;
-    while node < n {
+    for node in 0..n {
         let value = start_value(netlist, latched, values, node);
         store(values, node as usize, value);
-        node += 1;
     }
 }
 
 // A clock of a circuit. At the places of inputs the values are the clock's; afterwards they are the
 // seen values of all nodes, and what is latched is the next clock's.
-#[tactic(auto, unfolding(netlist::specs::Netlist::net_of))]
+#[tactic(auto, using(crate::proofs::WitnessLaws::clocks_by), unfolding(netlist::specs::Netlist::net_of))]
 pub fn run_clock(netlist: &[u8], circuit: Circuit, latched: &mut [u8], values: &mut [u8])
     ensures { holding values.new latched.new ≡ clocked (net_of netlist.now) (lines_in circuit) (holding values.old latched.old) }
 {
@@ -53,24 +52,16 @@ pub fn run_clock(netlist: &[u8], circuit: Circuit, latched: &mut [u8], values: &
 fn output_differs(netlist: &[u8], faulty: &[u8], good: &[u8], node: u16) -> bool
     ensures { result ≡ output_differs (net_of netlist.now) faulty.now good.now node }
 {
-    netlist::kind_of(netlist, node) == OUTPUT
+    netlist::is_of_kind(netlist, node, Kind::Output)
         && byte_at(faulty, node as usize) != byte_at(good, node as usize)
 }
 
 // Whether any is.
-#[tactic(auto, using(values::proofs::ListLaws::any_more, values::proofs::ListLaws::any_none), unfolding(netlist::specs::Netlist::net_of))]
 fn outputs_differ(netlist: &[u8], faulty: &[u8], good: &[u8]) -> bool
     ensures { result ≡ any (output_differs (net_of netlist.now) faulty.now good.now) (net_of netlist.now).size }
 {
     let n = netlist::node_count(netlist);
-    let mut node: u16 = 0;
-    while node < n {
-        if output_differs(netlist, faulty, good, node) {
-            return true;
-        }
-        node += 1;
-    }
-    false
+    (0..n).any(|node| output_differs(netlist, faulty, good, node))
 }
 
 // Both circuits take a clock with the inputs that stand in the first slice: the faulty one in the

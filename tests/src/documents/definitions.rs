@@ -79,7 +79,7 @@ fn name_at_start(text: &str) -> Option<&str> {
 /// The word that says what is defined, and the name.
 fn item_in_line(line: &str) -> Option<(&str, &str)> {
     const BEFORE: [&str; 4] = ["pub", "pub(crate)", "extern", "\"C\""];
-    const ITEMS: [&str; 6] = ["fn", "struct", "enum", "const", "type", "mod"];
+    const ITEMS: [&str; 7] = ["fn", "struct", "enum", "trait", "const", "type", "mod"];
     let mut words = line.split_whitespace().skip_while(|w| BEFORE.contains(w));
     let word = words.next().filter(|word| ITEMS.contains(word))?;
     let mut next = words.next()?;

@@ -19,22 +19,22 @@ pub fn library(netlist: &[u8], request: Request, lent: Lent) -> u64 {
 fn fault_of(request: Request) -> port::circuit::Fault {
     port::circuit::Fault {
         node: request.fault.node,
-        site: port::circuit::site_of(request.fault.site.to_byte()),
+        site: port::circuit::Site::from(request.fault.site.to_byte()),
         stuck: request.fault.u,
     }
 }
 
 /// Makes a finder of each of these copies of the sources. Each has a type of
-/// its own for its answers.
+/// its own for its marks.
 macro_rules! finders {
     ($($name:ident),*) => {
         $(pub fn $name(netlist: &[u8], request: Request, lent: Lent) -> u64 {
             let Lent { first, second, certificate } = lent;
             let (fault, b, f) = (fault_of(request), request.b, request.f);
             match port::$name::find(netlist, fault, b, f, first, second, certificate) {
-                port::$name::Finding::Found(c, length, _) => found_number(c, length as usize),
-                port::$name::Finding::None => 0,
-                port::$name::Finding::Refused(number) => number.into(),
+                Ok(Some(mark)) => found_number(mark.c, mark.length as usize),
+                Ok(None) => 0,
+                Err(refusal) => u8::from(refusal).into(),
             }
         })*
     };

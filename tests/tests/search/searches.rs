@@ -1,39 +1,35 @@
 //! Searches to put in the place of the finder's own, with the same names and
 //! the same signatures.
 
-// The signatures are those of the finder's own search.
-#![allow(clippy::too_many_arguments)]
-
 /// A search that finds nothing.
 pub mod nothing {
-    use crate::port::as_it_is::search::quick::lanes::Hit;
     use crate::port::circuit::Fault;
     use crate::port::gates::UNKNOWN;
+    use crate::port::splits::Split;
 
     pub(crate) use crate::port::as_it_is::search::quick::Window;
 
-    pub const FAN_LENGTH: usize = 0;
-    pub const TRAIL_LENGTH: usize = 0;
+    /// It needs nothing.
+    pub struct Scratch;
 
-    pub fn fan_out(_netlist: &[u8], _n: u16, _fan: &mut [u16]) {}
+    impl Scratch {
+        pub fn new(_netlist: &[u8], _n: u16) -> Self {
+            Scratch
+        }
+    }
 
     /// No run shows the fault.
-    pub fn find_run(_netlist: &[u8], _n: u16, _fault: Fault, _c: u8) -> Hit {
-        Hit {
-            found: false,
-            lane: 0,
-        }
+    pub fn find_run(_netlist: &[u8], _n: u16, _fault: Fault, _c: u8) -> Option<u8> {
+        None
     }
 
     /// No set keeps the split open.
     pub fn propose(
         _netlist: &[u8],
         _window: Window,
-        _fan: &[u16],
-        _node: u16,
-        _frame: u8,
+        _split: Split,
+        _scratch: &mut Scratch,
         _known: &mut [u8],
-        _trail: &mut [u16],
         _noted: &[u8],
     ) -> bool {
         false
@@ -43,9 +39,8 @@ pub mod nothing {
     pub fn guess(
         _netlist: &[u8],
         _window: Window,
-        _fan: &[u16],
+        _scratch: &mut Scratch,
         known: &mut [u8],
-        _trail: &mut [u16],
         _noted: &[u8],
     ) {
         known.fill(UNKNOWN);
@@ -57,14 +52,12 @@ pub mod nothing {
 /// and then what the finder's own search finds, but for one value.
 pub mod lies {
     use crate::port::as_it_is::search::quick;
-    use crate::port::as_it_is::search::quick::lanes::Hit;
     use crate::port::circuit::Fault;
+    use crate::port::splits::Split;
     use leverpeach_tests::random::Random;
     use std::cell::RefCell;
 
-    pub(crate) use crate::port::as_it_is::search::quick::{
-        fan_out, Window, FAN_LENGTH, TRAIL_LENGTH,
-    };
+    pub(crate) use crate::port::as_it_is::search::quick::{Scratch, Window};
 
     thread_local! {
         static RANDOM: RefCell<Random> = RefCell::new(Random::new(0));
@@ -75,11 +68,8 @@ pub mod lies {
         RANDOM.set(Random::new(seed));
     }
 
-    pub fn find_run(_netlist: &[u8], _n: u16, _fault: Fault, _c: u8) -> Hit {
-        RANDOM.with_borrow_mut(|random| Hit {
-            found: random.chance(80),
-            lane: random.byte(),
-        })
+    pub fn find_run(_netlist: &[u8], _n: u16, _fault: Fault, _c: u8) -> Option<u8> {
+        RANDOM.with_borrow_mut(|random| random.chance(80).then(|| random.byte()))
     }
 
     /// What is found in place of a set: any bytes, bytes that would be notes of
@@ -107,8 +97,8 @@ pub mod lies {
         known.fill_with(|| note + random.below(4) as u8);
     }
 
-    /// Spoils a set, and whatever stands in the trail.
-    fn spoil(random: &mut Random, lie: Lie, known: &mut [u8], trail: &mut [u16]) {
+    /// Spoils a set, and leaves any places in the trail.
+    fn spoil(random: &mut Random, lie: Lie, known: &mut [u8], scratch: &mut Scratch) {
         match lie {
             Lie::Bytes => known.fill_with(|| random.byte()),
             Lie::Notes => fill_with_notes(random, known),
@@ -116,26 +106,25 @@ pub mod lies {
             Lie::OneValue => known[random.below(known.len())] = random.pick(&[0, 1, 2]),
             Lie::Truth => {}
         }
-        let end = random.below(100).min(trail.len());
-        trail[..end].fill_with(|| random.word() as u16);
+        for _ in 0..random.below(100) {
+            scratch.trail.append(random.word() as usize);
+        }
     }
 
     pub fn propose(
         netlist: &[u8],
         window: Window,
-        fan: &[u16],
-        node: u16,
-        frame: u8,
+        split: Split,
+        scratch: &mut Scratch,
         known: &mut [u8],
-        trail: &mut [u16],
         noted: &[u8],
     ) -> bool {
         RANDOM.with_borrow_mut(|random| {
             let lie = random.pick(&LIES);
             if matches!(lie, Lie::OneValue | Lie::Truth) {
-                quick::propose(netlist, window, fan, node, frame, known, trail, noted);
+                quick::propose(netlist, window, split, scratch, known, noted);
             }
-            spoil(random, lie, known, trail);
+            spoil(random, lie, known, scratch);
             random.chance(90)
         })
     }
@@ -143,17 +132,16 @@ pub mod lies {
     pub fn guess(
         netlist: &[u8],
         window: Window,
-        fan: &[u16],
+        scratch: &mut Scratch,
         known: &mut [u8],
-        trail: &mut [u16],
         noted: &[u8],
     ) {
         RANDOM.with_borrow_mut(|random| {
             let lie = random.pick(&LIES);
             if matches!(lie, Lie::OneValue | Lie::Truth) {
-                quick::guess(netlist, window, fan, known, trail, noted);
+                quick::guess(netlist, window, scratch, known, noted);
             }
-            spoil(random, lie, known, trail);
+            spoil(random, lie, known, scratch);
         });
     }
 }

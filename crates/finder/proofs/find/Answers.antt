@@ -2,121 +2,92 @@
 -- refusal and none are answered as they are. Where a split is found, `ready` says, behind the count of the nodes, that all is there that
 -- its certificate asks for, and `written_here`, behind the writing, that the certificate stands in its slice, how many steps it has, and
 -- that the first slice is again as the search left it.
-use Prim.Native.Nat.{ℕ, ◌+◌, ◌*◌}
-use mathlib.Core.List.{◌++◌}
-use mathlib.Core.Path.{◌≡◌, ◌∙◌, ap, sym}
-use lib.ListN.{drop}
+use Prim.Native.Nat.{◌+◌, ◌*◌}
+use mathlib.Core.Path.{◌≡◌, refl, sym}
 use lib.Seq.{length-take-le}
 use native.Mathlib.Omega.{arith}
-use Rattle.netlist.specs.Netlist.{net_of}
-use Rattle.certificate.specs.Certificate.{head_length}
-use Rattle.sweeps.proofs.PartLaws.{certificate-length}
+use Rattle.std.proofs.Common.{rules}
+use Rattle.netlist.specs.Refusal.{number_of_refusal}
 use Rattle.search.specs.FinderCall.{finder_call}
-use Rattle.search.specs.Inner.Search.{search_outcome}
-use Rattle.search.specs.declared.answer.Searched.{Searched}
-use Rattle.finder.specs.Finder.{finder_outcome, finding, found}
+use Rattle.search.specs.Inner.Search.{no_split, search_outcome, searching, split_at, turned_back}
+use Rattle.finder.specs.Finder.{finder_outcome, finding, nothing_found}
 use Rattle.finder.proofs.FoundLaws.{finding_means}
-use Rattle.finder.proofs.SearchedLaws.{search_answers, split-ready, written_says}
+use Rattle.finder.proofs.SearchedLaws.{SplitReady, mark_made, none_found, search_answers, search_call, split-ready, split_found, written_says}
 use Rattle.finder.proofs.find.Goals as goal
+use Rattle.finder.proofs.find.Goals.{After-node_count-n, In_default}
 
-pub slice_bounds-write_certificate-end : goal.slice_bounds-write_certificate-end
-slice_bounds-write_certificate-end c =
+pub returns-in_err-searched-clause-outcome : goal.returns-in_err-searched-clause-outcome
+returns-in_err-searched-clause-outcome c =
     let a = c.args in
     let q = finder_call a.netlist.now a.fault a.b a.f a.first.now a.second.now a.certificate.now in
-    let s = c.in-At.split in
-    let first = c.first_split-searched.new.first in
-    let second = c.first_split-searched.new.second in
-    let answer = ap (λ (r : Searched). search_outcome r first second) (sym c.in-At.is) in
-    let ready = split-ready q s first second c.node_count-n.result c.node_count-n.ensures (answer ∙ c.first_split-searched.ensures) in
-    ready.fits-first
+    let said = search_answers q (turned_back (number_of_refusal c.in_err-searched.field-0.0)) c.in_err-searched.ensures refl in
+    search (rules, said)
 
-pub slice_bounds-write_certificate-end-in-At : goal.slice_bounds-write_certificate-end-in-At
-slice_bounds-write_certificate-end-in-At c =
+-- the search has found no split
+nothing : (c : In_default) → finder_outcome nothing_found c.first_split.new.first c.first_split.new.second c.args.certificate.now
+    ≡ finding (finder_call c.args.netlist.now c.args.fault c.args.b c.args.f c.args.first.now c.args.second.now c.args.certificate.now)
+nothing c =
     let a = c.args in
     let q = finder_call a.netlist.now a.fault a.b a.f a.first.now a.second.now a.certificate.now in
-    let s = c.in-At.split in
-    let first = c.first_split-searched.new.first in
-    let second = c.first_split-searched.new.second in
-    let answer = ap (λ (r : Searched). search_outcome r first second) (sym c.in-At.is) in
-    let ready = split-ready q s first second c.node_count-n.result c.node_count-n.ensures (answer ∙ c.first_split-searched.ensures) in
-    sym (length-take-le (c.node_count-n.result * (s.c + a.f + 1)) first ready.fits-first)
+    search_answers q no_split (none_found c.in_ok-searched.ensures c.in_default.is) refl
 
-pub overflow_mul-result : goal.overflow_mul-result
-overflow_mul-result c =
+pub returns-in_default-clause-outcome : goal.returns-in_default-clause-outcome
+returns-in_default-clause-outcome c = nothing c
+
+pub returns-in_default-clause-means_none_closes : goal.returns-in_default-clause-means_none_closes
+returns-in_default-clause-means_none_closes c =
     let a = c.args in
     let q = finder_call a.netlist.now a.fault a.b a.f a.first.now a.second.now a.certificate.now in
-    let s = c.in-At.split in
-    let first = c.first_split-searched.new.first in
-    let second = c.first_split-searched.new.second in
-    let answer = ap (λ (r : Searched). search_outcome r first second) (sym c.in-At.is) in
-    let ready = split-ready q s first second c.node_count-n.result c.node_count-n.ensures (answer ∙ c.first_split-searched.ensures) in
+    (finding_means q _ _ _ _ (nothing c)).1
+
+-- the search has found a split
+answered : (c : After-node_count-n) → search_outcome (split_at c.in-Some.split) c.first_split.new.first c.first_split.new.second
+    ≡ searching (search_call (finder_call c.args.netlist.now c.args.fault c.args.b c.args.f c.args.first.now c.args.second.now c.args.certificate.now))
+answered c = split_found c.in_ok-searched.ensures c.in-Some.is
+
+ready : (c : After-node_count-n) → SplitReady (finder_call c.args.netlist.now c.args.fault c.args.b c.args.f c.args.first.now c.args.second.now c.args.certificate.now)
+    c.in-Some.split c.first_split.new.first c.node_count-n.result
+ready c = split-ready _ c.in-Some.split c.first_split.new.first c.first_split.new.second c.node_count-n.result c.node_count-n.ensures (answered c)
+
+pub slice_bounds-known-end : goal.slice_bounds-known-end
+slice_bounds-known-end c = (ready c).fits-first
+
+pub slice_bounds-known-end-2 : goal.slice_bounds-known-end-2
+slice_bounds-known-end-2 c =
+    let r = ready (goal.at.slice_bounds-known-end-2 c).After-node_count-n in
+    sym (length-take-le (c.node_count-n.result * (c.in-Some.split.c + c.args.f + 1)) c.first_split.new.first r.fits-first)
+
+pub overflow_mul-length : goal.overflow_mul-length
+overflow_mul-length c =
+    let a = c.args in
+    let q = finder_call a.netlist.now a.fault a.b a.f a.first.now a.second.now a.certificate.now in
     let x = c.write_certificate-steps in
-    let written_here = written_says q s first c.node_count-n.result ready x.result x.new.known x.new.certificate x.ensures in
+    let r = ready (goal.at.overflow_mul-length c).After-node_count-n in
+    let written_here = written_says q c.in-Some.split c.first_split.new.first c.node_count-n.result r x.result x.new.known x.new.certificate x.ensures in
     omega (arith, written_here.1)
 
-pub overflow_add-result : goal.overflow_add-result
-overflow_add-result c =
+pub overflow_add-length : goal.overflow_add-length
+overflow_add-length c =
     let a = c.args in
     let q = finder_call a.netlist.now a.fault a.b a.f a.first.now a.second.now a.certificate.now in
-    let s = c.in-At.split in
-    let first = c.first_split-searched.new.first in
-    let second = c.first_split-searched.new.second in
-    let answer = ap (λ (r : Searched). search_outcome r first second) (sym c.in-At.is) in
-    let ready = split-ready q s first second c.node_count-n.result c.node_count-n.ensures (answer ∙ c.first_split-searched.ensures) in
     let x = c.write_certificate-steps in
-    let written_here = written_says q s first c.node_count-n.result ready x.result x.new.known x.new.certificate x.ensures in
+    let r = ready (goal.at.overflow_add-length c).After-node_count-n in
+    let written_here = written_says q c.in-Some.split c.first_split.new.first c.node_count-n.result r x.result x.new.known x.new.certificate x.ensures in
     omega (arith, written_here.1)
 
-pub returns-in-Refused-clause-certificate_after : goal.returns-in-Refused-clause-certificate_after
-returns-in-Refused-clause-certificate_after c =
+pub returns-clause-outcome : goal.returns-clause-outcome
+returns-clause-outcome c =
     let a = c.args in
     let q = finder_call a.netlist.now a.fault a.b a.f a.first.now a.second.now a.certificate.now in
-    search_answers q (Searched.Refused c.in-Refused.number) c.first_split-searched.ensures c.in-Refused.is
-
-pub returns-in-None-clause-certificate_after : goal.returns-in-None-clause-certificate_after
-returns-in-None-clause-certificate_after c =
-    let a = c.args in
-    let q = finder_call a.netlist.now a.fault a.b a.f a.first.now a.second.now a.certificate.now in
-    search_answers q Searched.None c.first_split-searched.ensures c.in-None.is
-
-pub returns-in-None-clause-none_closes : goal.returns-in-None-clause-none_closes
-returns-in-None-clause-none_closes c =
-    let a = c.args in
-    let q = finder_call a.netlist.now a.fault a.b a.f a.first.now a.second.now a.certificate.now in
-    (finding_means q _ _ _ _ (search_answers q Searched.None c.first_split-searched.ensures c.in-None.is)).1
-
-pub returns-in-At-clause-certificate_after : goal.returns-in-At-clause-certificate_after
-returns-in-At-clause-certificate_after c =
-    let a = c.args in
-    let q = finder_call a.netlist.now a.fault a.b a.f a.first.now a.second.now a.certificate.now in
-    let s = c.in-At.split in
-    let first = c.first_split-searched.new.first in
-    let second = c.first_split-searched.new.second in
-    let answer = ap (λ (r : Searched). search_outcome r first second) (sym c.in-At.is) in
-    let ready = split-ready q s first second c.node_count-n.result c.node_count-n.ensures (answer ∙ c.first_split-searched.ensures) in
     let x = c.write_certificate-steps in
-    let written_here = written_says q s first c.node_count-n.result ready x.result x.new.known x.new.certificate x.ensures in
-    let steps = written_here.0 in
-    let long = ap (λ (k : ℕ). head_length + 7 * k) steps ∙ sym (certificate-length (net_of q.netlist) q.fault q.f s) in
-    let made : finder_outcome (found s.c (head_length + 7 * x.result) x.result) (x.new.known ++ drop (c.node_count-n.result * (s.c + a.f + 1)) first) second x.new.certificate ≡ finding q =
-    (λ j. finder_outcome (found s.c (long j) (steps j)) (written_here.3 j) second (written_here.2 j))
-    ∙ search_answers q (Searched.At s) c.first_split-searched.ensures c.in-At.is in
-    made
+    let d = (goal.at.returns-clause-outcome c).After-node_count-n in
+    mark_made q c.in-Some.split c.first_split.new.first c.first_split.new.second c.node_count-n.result (ready d) x.result x.new.known x.new.certificate x.ensures (answered d)
 
-pub returns-in-At-clause-by_index : goal.returns-in-At-clause-by_index
-returns-in-At-clause-by_index c =
+pub returns-clause-means_mark : goal.returns-clause-means_mark
+returns-clause-means_mark c =
     let a = c.args in
     let q = finder_call a.netlist.now a.fault a.b a.f a.first.now a.second.now a.certificate.now in
-    let s = c.in-At.split in
-    let first = c.first_split-searched.new.first in
-    let second = c.first_split-searched.new.second in
-    let answer = ap (λ (r : Searched). search_outcome r first second) (sym c.in-At.is) in
-    let ready = split-ready q s first second c.node_count-n.result c.node_count-n.ensures (answer ∙ c.first_split-searched.ensures) in
     let x = c.write_certificate-steps in
-    let written_here = written_says q s first c.node_count-n.result ready x.result x.new.known x.new.certificate x.ensures in
-    let steps = written_here.0 in
-    let long = ap (λ (k : ℕ). head_length + 7 * k) steps ∙ sym (certificate-length (net_of q.netlist) q.fault q.f s) in
-    let made : finder_outcome (found s.c (head_length + 7 * x.result) x.result) (x.new.known ++ drop (c.node_count-n.result * (s.c + a.f + 1)) first) second x.new.certificate ≡ finding q =
-    (λ j. finder_outcome (found s.c (long j) (steps j)) (written_here.3 j) second (written_here.2 j))
-    ∙ search_answers q (Searched.At s) c.first_split-searched.ensures c.in-At.is in
+    let d = (goal.at.returns-clause-means_mark c).After-node_count-n in
+    let made = mark_made q c.in-Some.split c.first_split.new.first c.first_split.new.second c.node_count-n.result (ready d) x.result x.new.known x.new.certificate x.ensures (answered d) in
     (finding_means q _ _ _ _ made).0

@@ -1,10 +1,11 @@
 // Whether the fault's effect lives in a set of values: along the fan-out lists, with a byte of flags for
 // each node.
-use crate::quick::window::{Window, frame_after, row_of};
-use crate::quick::words::word_at;
+use crate::quick::fan::Fan;
+use crate::quick::set::ValueSet;
+use crate::quick::window::Window;
 use crate::trial::NODES_AT_MOST;
-use circuit::{Circuit, Fault, Site};
-use gates::{FLIP_FLOP, Gate, OUTPUT, UNKNOWN};
+use circuit::{Circuit, Site};
+use gates::{Gate, Kind, UNKNOWN};
 use values::{byte_at, store};
 
 // The node is touched.
@@ -19,216 +20,188 @@ const HANDED: u8 = 4;
 // It is in the next one.
 const NEXT: u8 = 8;
 
-fn has_flag(flags: &[u8], node: u16, flag: u8) -> bool {
-    byte_at(flags, node as usize) & flag != 0
+// The effect in a set of values, as far as it has been followed.
+#[derive(Drop)]
+struct Effect<'a> {
+    netlist: &'a [u8],
+    window: Window,
+    fan: &'a Fan,
+    known: &'a [u8],
+    flags: [u8; NODES_AT_MOST],
 }
 
-fn set_flag(flags: &mut [u8], node: u16, flag: u8) {
-    let set = byte_at(flags, node as usize);
-    store(flags, node as usize, set | flag);
+// A frame's values begin at the row; it is followed in the circuit.
+#[derive(Clone, Copy)]
+struct Frame {
+    circuit: Circuit,
+    row: u32,
 }
 
-// A node is touched: so may be those that read it.
-fn touch(netlist: &[u8], fan: &[u16], node: u16, flags: &mut [u8]) {
-    set_flag(flags, node, TOUCHED);
-    let end = word_at(fan, node as usize + 1);
-    let mut at = word_at(fan, node as usize);
-    while at < end {
-        let reader = word_at(fan, at as usize);
-        let flag = if netlist::kind_of(netlist, reader) == FLIP_FLOP {
-            NEXT
-        } else {
-            PENDING
-        };
-        set_flag(flags, reader, flag);
-        at += 1;
-    }
-}
-
-// The value of an untouched pin that stops the effect; UNKNOWN + 1 where none does.
-fn blocking_value(kind: u8) -> u8 {
-    let rule = gates::rule_of(kind);
-    let gate = rule.gate;
+// The value of an untouched pin that stops the effect, where one does.
+fn blocking_value(gate: Gate) -> Option<u8> {
     match gate {
-        Gate::Wire => UNKNOWN + 1,
-        Gate::Xor => UNKNOWN + 1,
-        _ => gates::controlling_value(gate),
+        Gate::Wire | Gate::Xor => None,
+        _ => Some(gates::controlling_value(gate)),
     }
 }
 
-// Whether a pin is touched, whose source has the value.
-fn pin_touched(stuck: u8, value: u8, flags: &[u8], source: u16) -> bool {
-    if stuck < UNKNOWN {
-        return value != stuck;
+impl Effect<'_> {
+    fn is_of_kind(&self, node: u16, kind: Kind) -> bool {
+        netlist::is_of_kind(self.netlist, node, kind)
     }
-    has_flag(flags, source, TOUCHED)
-}
 
-fn gate_touched(
-    netlist: &[u8],
-    circuit: Circuit,
-    node: u16,
-    row: u32,
-    known: &[u8],
-    flags: &[u8],
-) -> bool {
-    let place = netlist::pins_place(netlist, node);
-    let blocking = blocking_value(netlist::kind_of(netlist, node));
-    let count = netlist::length_of(netlist, node);
-    let mut some = false;
-    let mut pin: u16 = 0;
-    while pin < count {
-        let source = netlist::source_at(netlist, place, pin);
-        let value = byte_at(known, row as usize + source as usize);
-        let touched = pin_touched(circuit::stuck_pin(circuit, node, pin), value, flags, source);
-        if !touched && value == blocking {
-            return false;
+    // The value of a node at a frame.
+    fn value_in(&self, frame: Frame, node: u16) -> u8 {
+        byte_at(self.known, frame.row as usize + node as usize)
+    }
+
+    fn has_flag(&self, node: u16, flag: u8) -> bool {
+        byte_at(&self.flags, node as usize) & flag != 0
+    }
+
+    fn put_flags(&mut self, node: u16, flags: u8) {
+        store(&mut self.flags, node as usize, flags);
+    }
+
+    fn set_flag(&mut self, node: u16, flag: u8) {
+        let set = byte_at(&self.flags, node as usize);
+        self.put_flags(node, set | flag);
+    }
+
+    // A node is touched: so may be those that read it.
+    fn touch(&mut self, node: u16) {
+        self.set_flag(node, TOUCHED);
+        let fan = self.fan;
+        for &reader in fan.readers(node) {
+            let late = self.is_of_kind(reader, Kind::FlipFlop);
+            self.set_flag(reader, if late { NEXT } else { PENDING });
         }
-        some = some || touched;
-        pin += 1;
     }
-    some
-}
 
-fn node_touched(
-    netlist: &[u8],
-    circuit: Circuit,
-    node: u16,
-    row: u32,
-    known: &[u8],
-    flags: &[u8],
-) -> bool {
-    let stuck = circuit::stuck_node(circuit, node);
-    if stuck < UNKNOWN {
-        return byte_at(known, row as usize + node as usize) != stuck;
-    }
-    if has_flag(flags, node, HANDED) {
-        return true;
-    }
-    has_flag(flags, node, PENDING) && gate_touched(netlist, circuit, node, row, known, flags)
-}
-
-// Touches a node if it is to be. Says whether it is an output that is touched.
-fn touch_node(
-    netlist: &[u8],
-    circuit: Circuit,
-    fan: &[u16],
-    node: u16,
-    row: u32,
-    known: &[u8],
-    flags: &mut [u8],
-) -> bool {
-    if !node_touched(netlist, circuit, node, row, known, flags) {
-        return false;
-    }
-    touch(netlist, fan, node, flags);
-    netlist::kind_of(netlist, node) == OUTPUT
-}
-
-// Touches the nodes of a frame. Says whether an output is touched.
-fn touch_frame(
-    netlist: &[u8],
-    n: u16,
-    circuit: Circuit,
-    fan: &[u16],
-    row: u32,
-    known: &[u8],
-    flags: &mut [u8],
-) -> bool {
-    let mut node: u16 = 0;
-    while node < n {
-        if touch_node(netlist, circuit, fan, node, row, known, flags) {
-            return true;
+    // Whether a pin is touched, whose source has the value.
+    fn pin_touched(&self, stuck: Option<u8>, value: u8, source: u16) -> bool {
+        match stuck {
+            Some(stuck) if stuck < UNKNOWN => value != stuck,
+            _ => self.has_flag(source, TOUCHED),
         }
-        node += 1;
     }
-    false
-}
 
-// Goes on to the next frame. Says whether a flip-flop is touched there.
-fn turn_over(n: u16, flags: &mut [u8]) -> bool {
-    let mut some = false;
-    let mut node: u16 = 0;
-    while node < n {
-        let next = has_flag(flags, node, NEXT);
-        store(flags, node as usize, if next { HANDED } else { 0 });
-        some = some || next;
-        node += 1;
+    // Whether a pin of a gate is touched, and no untouched one stops the effect.
+    fn gate_touched(&self, frame: Frame, node: u16) -> bool {
+        let place = netlist::pins_place(self.netlist, node);
+        let blocking = blocking_value(netlist::rule_of(self.netlist, node).gate);
+        let mut some = false;
+        for pin in 0..netlist::length_of(self.netlist, node) {
+            let source = netlist::source_at(self.netlist, place, pin);
+            let value = self.value_in(frame, source);
+            let stuck = frame.circuit.stuck_pin(node, pin);
+            if self.pin_touched(stuck, value, source) {
+                some = true;
+            } else if blocking == Some(value) {
+                return false;
+            }
+        }
+        some
     }
-    some
-}
 
-// The faulted node may be touched through its pin; a flip-flop only a frame later, by the rule below.
-fn touch_site(netlist: &[u8], node: u16, flags: &mut [u8]) {
-    if netlist::kind_of(netlist, node) != FLIP_FLOP {
-        set_flag(flags, node, PENDING);
+    fn node_touched(&self, frame: Frame, node: u16) -> bool {
+        match frame.circuit.stuck_node(node) {
+            Some(stuck) if stuck < UNKNOWN => self.value_in(frame, node) != stuck,
+            _ if self.has_flag(node, HANDED) => true,
+            _ => self.has_flag(node, PENDING) && self.gate_touched(frame, node),
+        }
     }
-}
 
-// A faulted pin of a flip-flop is touched by its own rule.
-fn latch_site(netlist: &[u8], fault: Fault, row: u32, known: &[u8], flags: &mut [u8]) {
-    let node = fault.node;
-    let site = fault.site;
-    match site {
-        Site::Whole => (),
-        Site::Pin(pin) => {
-            if netlist::kind_of(netlist, node) == FLIP_FLOP {
-                let source = netlist::source_of(netlist, node, pin as u16);
-                let value = byte_at(known, row as usize + source as usize);
-                store(
-                    flags,
-                    node as usize,
-                    if value == fault.stuck { 0 } else { NEXT },
-                );
+    // Touches the nodes of a frame, up to an output. Says whether one is touched.
+    fn touch_frame(&mut self, frame: Frame) -> bool {
+        for node in 0..self.window.n {
+            if self.node_touched(frame, node) {
+                self.touch(node);
+                if self.is_of_kind(node, Kind::Output) {
+                    return true;
+                }
+            }
+        }
+        false
+    }
+
+    // Goes on to the next frame. Says whether a flip-flop is touched there.
+    fn turn_over(&mut self) -> bool {
+        let mut some = false;
+        for node in 0..self.window.n {
+            let next = self.has_flag(node, NEXT);
+            self.put_flags(node, if next { HANDED } else { 0 });
+            some = some || next;
+        }
+        some
+    }
+
+    // The faulted node may be touched through its pin; a flip-flop only a frame later, by the rule below.
+    fn touch_site(&mut self) {
+        let node = self.window.fault.node;
+        if !self.is_of_kind(node, Kind::FlipFlop) {
+            self.set_flag(node, PENDING);
+        }
+    }
+
+    // A faulted pin of a flip-flop is touched by its own rule.
+    fn latch_site(&mut self, frame: Frame) {
+        let fault = self.window.fault;
+        let node = fault.node;
+        let site = fault.site;
+        if let Site::Pin(pin) = site {
+            if self.is_of_kind(node, Kind::FlipFlop) {
+                let source = netlist::source_of(self.netlist, node, pin as u16);
+                let same = self.value_in(frame, source) == fault.stuck;
+                self.put_flags(node, if same { 0 } else { NEXT });
             }
         }
     }
-}
 
-// Whether the effect lives on through the frames from one behind the fault frame on.
-fn lives_on(
-    netlist: &[u8],
-    window: Window,
-    fan: &[u16],
-    from: u8,
-    known: &[u8],
-    flags: &mut [u8],
-) -> bool {
-    let n = window.n;
-    let end = window.w;
-    let mut frame = from;
-    while frame < end {
-        let row = row_of(n, frame);
-        if touch_frame(netlist, n, Circuit::Good, fan, row, known, flags) {
+    // Whether the effect lives on through the frames behind the fault frame.
+    fn lives_on(&mut self) -> bool {
+        let Window { c, w, .. } = self.window;
+        for frame in (c..w).skip(1) {
+            let good = Frame {
+                circuit: Circuit::Good,
+                row: self.window.row_of(frame),
+            };
+            if self.touch_frame(good) {
+                return true;
+            }
+            if !self.turn_over() {
+                return false;
+            }
+        }
+        true
+    }
+
+    // Whether the effect lives, which is followed from the fault frame on.
+    fn lives(&mut self) -> bool {
+        let window = self.window;
+        let faulty = Frame {
+            circuit: Circuit::Faulty(window.fault),
+            row: window.row_of(window.c),
+        };
+        self.touch_site();
+        if self.touch_frame(faulty) {
             return true;
         }
-        if !turn_over(n, flags) {
-            return false;
-        }
-        frame += 1;
+        self.latch_site(faulty);
+        self.turn_over() && self.lives_on()
     }
-    true
 }
 
-// Whether the effect lives, with flags that are 0.
-fn lives(netlist: &[u8], window: Window, fan: &[u16], known: &[u8], flags: &mut [u8]) -> bool {
-    let n = window.n;
-    let fault = window.fault;
-    let row = row_of(n, window.c);
-    touch_site(netlist, fault.node, flags);
-    if touch_frame(netlist, n, Circuit::Faulty(fault), fan, row, known, flags) {
-        return true;
+impl ValueSet<'_, '_> {
+    // Whether the effect lives: an output is touched, or a flip-flop's pin in the last frame.
+    pub(crate) fn effect_lives(&self) -> bool {
+        let mut effect = Effect {
+            netlist: self.netlist,
+            window: self.window,
+            fan: self.fan,
+            known: self.known,
+            flags: [0; NODES_AT_MOST],
+        };
+        effect.lives()
     }
-    latch_site(netlist, fault, row, known, flags);
-    if !turn_over(n, flags) {
-        return false;
-    }
-    let next = frame_after(window, window.c);
-    lives_on(netlist, window, fan, next, known, flags)
-}
-
-// Whether the effect lives: an output is touched, or a flip-flop's pin in the last frame.
-pub(crate) fn effect_lives(netlist: &[u8], window: Window, fan: &[u16], known: &[u8]) -> bool {
-    let mut flags = [0u8; NODES_AT_MOST];
-    lives(netlist, window, fan, known, &mut flags)
 }

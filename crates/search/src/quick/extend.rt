@@ -1,244 +1,130 @@
 // Open sets: one that has a value of a split, and values of other splits besides.
-ghost use Rattle.std.specs.Prelude.{◌<◌};
-
-use crate::quick::effect::effect_lives;
-use crate::quick::spread::{add_value, begin};
-use crate::quick::trail::{START, end_of, reset, undo};
-use crate::quick::window::{Window, row_of};
+use crate::quick::scratch::Scratch;
+use crate::quick::set::ValueSet;
+use crate::quick::window::Window;
 use circuit::{Fault, Site};
 use gates::UNKNOWN;
-use splits::NOTE_UNIT;
+use splits::{NOTE_UNIT, Split};
 use values::byte_at;
 
 // How many places are added before the effect is looked at.
 const BLOCK: usize = 64;
 
-// Whether a value is wanted at a place: it is unknown, and nothing is noted of it for c.
-fn is_wanted(known: &[u8], noted: &[u8], c: u8, place: usize) -> bool {
-    byte_at(known, place) >= UNKNOWN && (byte_at(noted, place) / NOTE_UNIT) as u16 != c as u16 + 1
-}
+impl ValueSet<'_, '_> {
+    // Whether a value is wanted at a place: it is unknown, and nothing is noted of it for c.
+    fn is_wanted(&self, place: usize) -> bool {
+        self.value_at(place) >= UNKNOWN
+            && (byte_at(self.noted, place) / NOTE_UNIT) as u16 != self.window.c as u16 + 1
+    }
 
-// Adds 0 at a place, or 1 where 0 does not fit, if a value is wanted there.
-fn add_wanted(
-    netlist: &[u8],
-    window: Window,
-    fan: &[u16],
-    place: usize,
-    known: &mut [u8],
-    trail: &mut [u16],
-    noted: &[u8],
-) {
-    if !is_wanted(known, noted, window.c, place) {
-        return;
+    // Adds values at the places of a block: 0, or 1 where 0 does not fit. A value that is kept is never taken
+    // back, so that each block has the whole trail.
+    fn add_block(&mut self, from: usize, end: usize) {
+        self.trail.clear();
+        for place in from..end {
+            if self.is_wanted(place) && !self.add_value(place, 0) {
+                self.add_value(place, 1);
+            }
+        }
     }
-    if !add_value(netlist, window, fan, place, 0, known, trail) {
-        add_value(netlist, window, fan, place, 1, known, trail);
-    }
-}
 
-// Adds values at the places of a block. A value that is kept is never taken back, so that each block has
-// the whole trail.
-fn add_block(
-    netlist: &[u8],
-    window: Window,
-    fan: &[u16],
-    from: usize,
-    end: usize,
-    known: &mut [u8],
-    trail: &mut [u16],
-    noted: &[u8],
-) {
-    reset(trail, START);
-    let mut place = from;
-    while place < end {
-        add_wanted(netlist, window, fan, place, known, trail, noted);
-        place += 1;
+    // Adds a value if the effect lives with it. Says whether it does.
+    fn add_living(&mut self, place: usize, value: u8) -> bool {
+        self.trail.clear();
+        if !self.add_value(place, value) {
+            return false;
+        }
+        if self.effect_lives() {
+            return true;
+        }
+        self.trail.undo(0, self.known);
+        false
     }
-}
 
-// Adds a value if the effect lives with it. Says whether it does.
-fn add_living(
-    netlist: &[u8],
-    window: Window,
-    fan: &[u16],
-    place: usize,
-    value: u8,
-    known: &mut [u8],
-    trail: &mut [u16],
-) -> bool {
-    reset(trail, START);
-    if !add_value(netlist, window, fan, place, value, known, trail) {
-        return false;
+    // Adds values at the places of a block one by one, each if the effect lives with it.
+    fn add_singly(&mut self, from: usize, end: usize) {
+        for place in from..end {
+            if self.is_wanted(place) && !self.add_living(place, 0) {
+                self.add_living(place, 1);
+            }
+        }
     }
-    if effect_lives(netlist, window, fan, known) {
-        return true;
-    }
-    undo(known, trail, START);
-    false
-}
 
-// Adds one of the values of a place, if one is wanted there and the effect lives with it.
-fn add_wanted_living(
-    netlist: &[u8],
-    window: Window,
-    fan: &[u16],
-    place: usize,
-    known: &mut [u8],
-    trail: &mut [u16],
-    noted: &[u8],
-) {
-    if !is_wanted(known, noted, window.c, place) {
-        return;
+    // Adds values at the places of a block, all at once if the effect lives with them, else one by one.
+    fn extend_block(&mut self, from: usize, end: usize) {
+        self.add_block(from, end);
+        if self.trail.is_empty() || self.effect_lives() {
+            return;
+        }
+        self.trail.undo(0, self.known);
+        self.add_singly(from, end);
     }
-    if !add_living(netlist, window, fan, place, 0, known, trail) {
-        add_living(netlist, window, fan, place, 1, known, trail);
-    }
-}
 
-// The same for each place of a block, one by one.
-fn add_singly(
-    netlist: &[u8],
-    window: Window,
-    fan: &[u16],
-    from: usize,
-    end: usize,
-    known: &mut [u8],
-    trail: &mut [u16],
-    noted: &[u8],
-) {
-    let mut place = from;
-    while place < end {
-        add_wanted_living(netlist, window, fan, place, known, trail, noted);
-        place += 1;
+    // Adds values from a place on, up to an end.
+    fn extend(&mut self, from: usize, end: usize) {
+        for place in (from..end).step_by(BLOCK) {
+            let next = place.saturating_add(BLOCK).min(end);
+            self.extend_block(place, next);
+        }
     }
-}
 
-// Adds values at the places of a block, all at once if the effect lives with them, else one by one.
-fn extend_block(
-    netlist: &[u8],
-    window: Window,
-    fan: &[u16],
-    from: usize,
-    end: usize,
-    known: &mut [u8],
-    trail: &mut [u16],
-    noted: &[u8],
-) {
-    add_block(netlist, window, fan, from, end, known, trail, noted);
-    if end_of(trail) == START {
-        return;
+    // Adds values at the frames below one, the last first.
+    fn extend_back(&mut self, frames: u8) {
+        for frame in (0..frames).rev() {
+            let from = self.window.row_of(frame) as usize;
+            self.extend(from, from + self.window.n as usize);
+        }
     }
-    if effect_lives(netlist, window, fan, known) {
-        return;
+
+    // Works out branch v of a split. Says whether it seems to stay open.
+    fn side_open(&mut self, split: Split, v: u8) -> bool {
+        self.begin(split, v) && self.effect_lives()
     }
-    undo(known, trail, START);
-    add_singly(netlist, window, fan, from, end, known, trail, noted);
-}
 
-// Where the block from a place on ends.
-fn block_end(place: usize, len: usize) -> usize
-    requires { place < len }
-    ensures { place < result }
-{
-    if len - place < BLOCK {
-        return len;
+    // Works out branch 0 of a split, and branch 1 where that closes. Says whether one seems to stay open.
+    fn either_open(&mut self, split: Split) -> bool {
+        self.side_open(split, 0) || self.side_open(split, 1)
     }
-    place + BLOCK
-}
 
-// Adds values from a place on, up to an end.
-fn extend(
-    netlist: &[u8],
-    window: Window,
-    fan: &[u16],
-    from: usize,
-    end: usize,
-    known: &mut [u8],
-    trail: &mut [u16],
-    noted: &[u8],
-) {
-    let mut place = from;
-    while place < end {
-        let next = block_end(place, end);
-        extend_block(netlist, window, fan, place, next, known, trail, noted);
-        place = next;
+    // Adds values at every place of the window: first from a frame on, then below it.
+    fn extend_all(&mut self, frame: u8) {
+        let from = self.window.row_of(frame) as usize;
+        let end = self.known.len();
+        self.extend(from, end);
+        self.extend_back(frame);
     }
-}
 
-// Adds values at the frames below one, the last first.
-fn extend_back(
-    netlist: &[u8],
-    window: Window,
-    fan: &[u16],
-    frames: u8,
-    known: &mut [u8],
-    trail: &mut [u16],
-    noted: &[u8],
-) {
-    let n = window.n;
-    let mut left = frames;
-    while 0 < left {
-        left -= 1;
-        let from = row_of(n, left) as usize;
-        let end = from + n as usize;
-        extend(netlist, window, fan, from, end, known, trail, noted);
+    // Makes it an open set that has a value of the split, and values of the places behind it of which
+    // nothing is noted. Says whether there seems to be one.
+    fn open_at(&mut self, split: Split) -> bool {
+        if !self.either_open(split) {
+            return false;
+        }
+        let place = self.window.place_of(split.node, split.frame);
+        let end = self.known.len();
+        self.extend(place, end);
+        true
     }
-}
 
-// Works out branch v of a split. Says whether it seems to stay open.
-fn side_open(
-    netlist: &[u8],
-    window: Window,
-    fan: &[u16],
-    node: u16,
-    frame: u8,
-    v: u8,
-    known: &mut [u8],
-    trail: &mut [u16],
-) -> bool {
-    begin(netlist, window, fan, node, frame, v, known, trail)
-        && effect_lives(netlist, window, fan, known)
-}
-
-// Works out branch 0 of a split, and branch 1 where that closes. Says whether one seems to stay open.
-fn either_open(
-    netlist: &[u8],
-    window: Window,
-    fan: &[u16],
-    node: u16,
-    frame: u8,
-    known: &mut [u8],
-    trail: &mut [u16],
-) -> bool {
-    side_open(netlist, window, fan, node, frame, 0, known, trail)
-        || side_open(netlist, window, fan, node, frame, 1, known, trail)
-}
-
-// Looks for an open set that has a value of the split, and values of the places behind it of which
-// nothing is noted. Says whether there seems to be one.
-pub(crate) fn propose(
-    netlist: &[u8],
-    window: Window,
-    fan: &[u16],
-    node: u16,
-    frame: u8,
-    known: &mut [u8],
-    trail: &mut [u16],
-    noted: &[u8],
-) -> bool {
-    if !either_open(netlist, window, fan, node, frame, known, trail) {
-        return false;
+    // Makes it a set in which the fault is excited at the fault frame. Where there is none, nothing is known.
+    fn excite(&mut self) {
+        let Window { fault, c, .. } = self.window;
+        let line = Split {
+            c,
+            frame: c,
+            node: line_source(self.netlist, fault),
+        };
+        if self.side_open(line, gates::negation(fault.stuck)) {
+            self.extend_all(guess_frame(c));
+        } else {
+            values::fill(self.known, UNKNOWN);
+        }
     }
-    let place = knowledge::place_of(window.n, node, frame as u16);
-    let end = known.len();
-    extend(netlist, window, fan, place, end, known, trail, noted);
-    true
 }
 
 // The node whose value the faulted line has in the good circuit.
 fn line_source(netlist: &[u8], fault: Fault) -> u16 {
-    let site = fault.site;
-    match site {
+    match fault.site {
         Site::Whole => fault.node,
         Site::Pin(pin) => netlist::source_of(netlist, fault.node, pin as u16),
     }
@@ -250,20 +136,25 @@ fn guess_frame(c: u8) -> u8 {
     if c < 3 { 0 } else { c - 1 }
 }
 
-// Adds values at every place of the window.
-fn extend_all(
+// Looks for an open set that has a value of the split, and values of the places behind it of which
+// nothing is noted. Says whether there seems to be one.
+pub(crate) fn propose(
     netlist: &[u8],
     window: Window,
-    fan: &[u16],
+    split: Split,
+    scratch: &mut Scratch,
     known: &mut [u8],
-    trail: &mut [u16],
     noted: &[u8],
-) {
-    let frame = guess_frame(window.c);
-    let from = row_of(window.n, frame) as usize;
-    let end = known.len();
-    extend(netlist, window, fan, from, end, known, trail, noted);
-    extend_back(netlist, window, fan, frame, known, trail, noted);
+) -> bool {
+    let mut set = ValueSet {
+        netlist,
+        window,
+        fan: &scratch.fan,
+        trail: &mut scratch.trail,
+        known,
+        noted,
+    };
+    set.open_at(split)
 }
 
 // Looks for a set of values of the window in which the fault is excited at the fault frame. Where there
@@ -271,18 +162,17 @@ fn extend_all(
 pub(crate) fn guess(
     netlist: &[u8],
     window: Window,
-    fan: &[u16],
+    scratch: &mut Scratch,
     known: &mut [u8],
-    trail: &mut [u16],
     noted: &[u8],
 ) {
-    let fault = window.fault;
-    let c = window.c;
-    let source = line_source(netlist, fault);
-    let excited = gates::negation(fault.stuck);
-    if side_open(netlist, window, fan, source, c, excited, known, trail) {
-        extend_all(netlist, window, fan, known, trail, noted);
-    } else {
-        values::fill(known, UNKNOWN);
-    }
+    let mut set = ValueSet {
+        netlist,
+        window,
+        fan: &scratch.fan,
+        trail: &mut scratch.trail,
+        known,
+        noted,
+    };
+    set.excite();
 }

@@ -1,21 +1,11 @@
 // 64 runs of the good and the faulty circuit at once, a bit of a word for each. Nothing is promised:
 // a run that seems to show the fault is run again by itself.
+ghost use Rattle.std.specs.Prelude.{◌≤◌};
+
 use crate::random::{FIRST_WORD, drawn_for, input_word};
 use crate::trial::{CLOCKS, NODES_AT_MOST};
-use circuit::{Circuit, Fault, NOT_STUCK};
-use gates::{FLIP_FLOP, Gate, INPUT, OUTPUT};
-
-// A node has four words: its seen values in the good circuit and in the faulty one, and what it has
-// latched in each.
-const GOOD: u8 = 0;
-
-const FAULTY: u8 = 1;
-
-const GOOD_LATCHED: u8 = 2;
-
-const FAULTY_LATCHED: u8 = 3;
-
-const WORDS: usize = 4;
+use circuit::{Circuit, Fault};
+use gates::{Gate, Kind, UNKNOWN};
 
 // A small circuit has no more nodes.
 const FEW_NODES: usize = 256;
@@ -27,55 +17,28 @@ struct Pair {
     faulty: u64,
 }
 
-// Where the runs are: the word that was drawn last, and the runs in which an output differs.
+// What a node has: its seen values, and what it has latched.
 #[derive(Clone, Copy)]
-struct Clock {
-    word: u64,
-    differ: u64,
+struct Node {
+    seen: Pair,
+    latched: Pair,
 }
 
-// Whether a run seems to show the fault, and which.
-#[derive(Clone, Copy)]
-pub struct Hit {
-    pub found: bool,
-    pub lane: u8,
-}
-
-// A word of a node, 0 where there is none.
-fn load(words: &[u64], node: u16, which: u8) -> u64 {
-    let place = WORDS * node as usize + which as usize;
-    if place < words.len() { words[place] } else { 0 }
-}
-
-// Puts a word of a node, if there is room.
-fn put(words: &mut [u64], node: u16, which: u8, word: u64) {
-    let place = WORDS * node as usize + which as usize;
-    if place < words.len() {
-        words[place] = word;
-    }
-}
+const NO_NODE: Node = Node {
+    seen: Pair { good: 0, faulty: 0 },
+    latched: Pair { good: 0, faulty: 0 },
+};
 
 // A value in all runs.
 fn in_all(value: u8) -> u64 {
-    if value == 0 { 0 } else { 0xffffffffffffffff }
+    if value == 0 { 0 } else { u64::MAX }
 }
 
 // The stuck value in all runs where there is one, else the line's own values.
-fn stuck_or_own(stuck: u8, own: u64) -> u64 {
-    if stuck < NOT_STUCK {
-        in_all(stuck)
-    } else {
-        own
-    }
-}
-
-// What a pin reads, where its node's pins stand at the place.
-fn read_pair(netlist: &[u8], place: u32, fault: Fault, node: u16, pin: u16, words: &[u64]) -> Pair {
-    let source = netlist::source_at(netlist, place, pin);
-    let stuck = circuit::stuck_pin(Circuit::Faulty(fault), node, pin);
-    Pair {
-        good: load(words, source, GOOD),
-        faulty: stuck_or_own(stuck, load(words, source, FAULTY)),
+fn stuck_or_own(stuck: Option<u8>, own: u64) -> u64 {
+    match stuck {
+        Some(value) if value < UNKNOWN => in_all(value),
+        _ => own,
     }
 }
 
@@ -88,187 +51,189 @@ fn join_words(gate: Gate, v: u64, w: u64) -> u64 {
     }
 }
 
-fn join_pairs(gate: Gate, v: Pair, w: Pair) -> Pair {
-    Pair {
-        good: join_words(gate, v.good, w.good),
-        faulty: join_words(gate, v.faulty, w.faulty),
+impl Pair {
+    // The same values in both circuits.
+    fn both(word: u64) -> Pair {
+        Pair {
+            good: word,
+            faulty: word,
+        }
+    }
+
+    fn join(self, gate: Gate, other: Pair) -> Pair {
+        Pair {
+            good: join_words(gate, self.good, other.good),
+            faulty: join_words(gate, self.faulty, other.faulty),
+        }
+    }
+
+    // With the line of the faulty circuit stuck, where it is.
+    fn with_stuck(self, stuck: Option<u8>) -> Pair {
+        Pair {
+            good: self.good,
+            faulty: stuck_or_own(stuck, self.faulty),
+        }
+    }
+
+    fn inverted_if(self, inverted: bool) -> Pair {
+        let inverse = in_all(inverted as u8);
+        Pair {
+            good: self.good ^ inverse,
+            faulty: self.faulty ^ inverse,
+        }
     }
 }
 
-fn inverted_pair(inverted: bool, pair: Pair) -> Pair {
-    let inverse = in_all(if inverted { 1 } else { 0 });
-    Pair {
-        good: pair.good ^ inverse,
-        faulty: pair.faulty ^ inverse,
+// Where the runs are: the word that was drawn last, and the runs in which an output differs.
+#[derive(Clone, Copy)]
+struct Clock {
+    word: u64,
+    differ: u64,
+}
+
+// A circuit of n nodes, and the fault of which the runs may show something.
+#[derive(Clone, Copy)]
+struct Lanes<'a> {
+    netlist: &'a [u8],
+    n: u16,
+    fault: Fault,
+}
+
+impl Lanes<'_> {
+    fn is_of_kind(self, node: u16, kind: Kind) -> bool {
+        netlist::is_of_kind(self.netlist, node, kind)
+    }
+
+    // What a pin reads, where its node's pins stand at the place.
+    fn read_pin(self, place: u32, node: u16, pin: u16, nodes: &[Node]) -> Pair {
+        let source = netlist::source_at(self.netlist, place, pin);
+        let stuck = Circuit::Faulty(self.fault).stuck_pin(node, pin);
+        node_at(nodes, source).seen.with_stuck(stuck)
+    }
+
+    fn gate_pair(self, node: u16, nodes: &[Node]) -> Pair {
+        let rule = netlist::rule_of(self.netlist, node);
+        let gate = rule.gate;
+        let place = netlist::pins_place(self.netlist, node);
+        let mut pair = Pair::both(in_all(gates::unit_of(gate)));
+        for pin in 0..netlist::length_of(self.netlist, node) {
+            pair = self.read_pin(place, node, pin, nodes).join(gate, pair);
+        }
+        pair.inverted_if(rule.inverted)
+    }
+
+    // The seen values of a node, before a stuck one.
+    fn own_pair(self, node: u16, word: u64, nodes: &[Node]) -> Pair {
+        match netlist::kind_of(self.netlist, node) {
+            Ok(Kind::Input) => Pair::both(input_word(node, word)),
+            Ok(Kind::FlipFlop) => node_at(nodes, node).latched,
+            _ => self.gate_pair(node, nodes),
+        }
+    }
+
+    fn run_node(self, node: u16, clock: Clock, nodes: &mut [Node]) -> Clock {
+        let word = drawn_for(self.netlist, Kind::Input, node, clock.word);
+        let stuck = Circuit::Faulty(self.fault).stuck_node(node);
+        let pair = self.own_pair(node, word, nodes).with_stuck(stuck);
+        if let Some(place) = nodes.get_mut(node as usize) {
+            place.seen = pair;
+        }
+        let seen = in_all(self.is_of_kind(node, Kind::Output) as u8);
+        Clock {
+            word,
+            differ: clock.differ | (seen & (pair.good ^ pair.faulty)),
+        }
+    }
+
+    fn latch_node(self, node: u16, nodes: &mut [Node]) {
+        if !self.is_of_kind(node, Kind::FlipFlop) {
+            return;
+        }
+        let place = netlist::pins_place(self.netlist, node);
+        let pair = self.read_pin(place, node, 0, nodes);
+        if let Some(place) = nodes.get_mut(node as usize) {
+            place.latched = pair;
+        }
+    }
+
+    fn run_clock(self, word: u64, nodes: &mut [Node]) -> Clock {
+        let mut clock = Clock { word, differ: 0 };
+        for node in 0..self.n {
+            clock = self.run_node(node, clock, nodes);
+        }
+        for node in 0..self.n {
+            self.latch_node(node, nodes);
+        }
+        clock
+    }
+
+    // Draws what the faulty circuit has latched at the start.
+    fn draw_start(self, word: u64, nodes: &mut [Node]) -> u64 {
+        let mut next = word;
+        for node in 0..self.n {
+            next = drawn_for(self.netlist, Kind::FlipFlop, node, next);
+            if let Some(place) = nodes.get_mut(node as usize) {
+                place.latched.faulty = next;
+            }
+        }
+        next
+    }
+
+    // The clocks before the good circuit starts.
+    fn lead_in(self, c: u8, word: u64, nodes: &mut [Node]) -> u64 {
+        let mut next = word;
+        for _ in 0..c {
+            next = self.run_clock(next, nodes).word;
+        }
+        next
+    }
+
+    // A run in which an output differs while both circuits take clocks.
+    fn run_both(self, word: u64, nodes: &mut [Node]) -> Option<u8> {
+        let mut next = word;
+        for _ in 0..CLOCKS {
+            let Clock { word, differ } = self.run_clock(next, nodes);
+            if differ != 0 {
+                return Some((differ.trailing_zeros() % 64) as u8);
+            }
+            next = word;
+        }
+        None
     }
 }
 
-fn gate_pair(netlist: &[u8], fault: Fault, node: u16, words: &[u64]) -> Pair {
-    let rule = gates::rule_of(netlist::kind_of(netlist, node));
-    let gate = rule.gate;
-    let place = netlist::pins_place(netlist, node);
-    let unit = in_all(gates::unit_of(gate));
-    let count = netlist::length_of(netlist, node);
-    let mut pair = Pair {
-        good: unit,
-        faulty: unit,
-    };
-    let mut pin: u16 = 0;
-    while pin < count {
-        let read = read_pair(netlist, place, fault, node, pin, words);
-        pair = join_pairs(gate, read, pair);
-        pin += 1;
-    }
-    inverted_pair(rule.inverted, pair)
-}
-
-// The seen values of a node, before a stuck one.
-fn own_pair(netlist: &[u8], fault: Fault, node: u16, word: u64, words: &[u64]) -> Pair {
-    let kind = netlist::kind_of(netlist, node);
-    if kind == INPUT {
-        let drawn = input_word(node, word);
-        return Pair {
-            good: drawn,
-            faulty: drawn,
-        };
-    }
-    if kind == FLIP_FLOP {
-        return Pair {
-            good: load(words, node, GOOD_LATCHED),
-            faulty: load(words, node, FAULTY_LATCHED),
-        };
-    }
-    gate_pair(netlist, fault, node, words)
-}
-
-fn run_node(netlist: &[u8], fault: Fault, node: u16, clock: Clock, words: &mut [u64]) -> Clock {
-    let word = drawn_for(netlist, INPUT, node, clock.word);
-    let pair = own_pair(netlist, fault, node, word, words);
-    let stuck = circuit::stuck_node(Circuit::Faulty(fault), node);
-    let wrong = stuck_or_own(stuck, pair.faulty);
-    put(words, node, GOOD, pair.good);
-    put(words, node, FAULTY, wrong);
-    let seen = in_all(if netlist::kind_of(netlist, node) == OUTPUT {
-        1
-    } else {
-        0
-    });
-    Clock {
-        word,
-        differ: clock.differ | (seen & (pair.good ^ wrong)),
-    }
-}
-
-fn run_nodes(netlist: &[u8], n: u16, fault: Fault, word: u64, words: &mut [u64]) -> Clock {
-    let mut clock = Clock { word, differ: 0 };
-    let mut node: u16 = 0;
-    while node < n {
-        clock = run_node(netlist, fault, node, clock, words);
-        node += 1;
-    }
-    clock
-}
-
-fn latch_node(netlist: &[u8], fault: Fault, node: u16, words: &mut [u64]) {
-    if netlist::kind_of(netlist, node) != FLIP_FLOP {
-        return;
-    }
-    let place = netlist::pins_place(netlist, node);
-    let pair = read_pair(netlist, place, fault, node, 0, words);
-    put(words, node, GOOD_LATCHED, pair.good);
-    put(words, node, FAULTY_LATCHED, pair.faulty);
-}
-
-fn latch_nodes(netlist: &[u8], n: u16, fault: Fault, words: &mut [u64]) {
-    let mut node: u16 = 0;
-    while node < n {
-        latch_node(netlist, fault, node, words);
-        node += 1;
-    }
-}
-
-fn run_clock(netlist: &[u8], n: u16, fault: Fault, word: u64, words: &mut [u64]) -> Clock {
-    let clock = run_nodes(netlist, n, fault, word, words);
-    latch_nodes(netlist, n, fault, words);
-    clock
-}
-
-// The clocks before the good circuit starts.
-fn lead_in(netlist: &[u8], n: u16, fault: Fault, c: u8, word: u64, words: &mut [u64]) -> u64 {
-    let mut next = word;
-    let mut left = c;
-    while 0 < left {
-        let clock = run_clock(netlist, n, fault, next, words);
-        next = clock.word;
-        left -= 1;
-    }
-    next
-}
-
-// Draws what the faulty circuit has latched at the start.
-fn draw_start(netlist: &[u8], n: u16, word: u64, words: &mut [u64]) -> u64 {
-    let mut next = word;
-    let mut node: u16 = 0;
-    while node < n {
-        next = drawn_for(netlist, FLIP_FLOP, node, next);
-        put(words, node, FAULTY_LATCHED, next);
-        node += 1;
-    }
-    next
+// What a node has, 0 where there is no such node.
+fn node_at(nodes: &[Node], node: u16) -> Node {
+    nodes.get(node as usize).copied().unwrap_or(NO_NODE)
 }
 
 // The good circuit starts from what the faulty one has latched.
-fn take_over(n: u16, words: &mut [u64]) {
-    let mut node: u16 = 0;
-    while node < n {
-        let latched = load(words, node, FAULTY_LATCHED);
-        put(words, node, GOOD_LATCHED, latched);
-        node += 1;
+fn take_over(nodes: &mut [Node]) {
+    for node in nodes.iter_mut() {
+        node.latched.good = node.latched.faulty;
     }
 }
 
-// Whether an output differs while both circuits take clocks, and in which run.
-fn run_both(netlist: &[u8], n: u16, fault: Fault, word: u64, words: &mut [u64]) -> Hit {
-    let mut next = word;
-    let mut left = CLOCKS;
-    while 0 < left {
-        let clock = run_clock(netlist, n, fault, next, words);
-        let differ = clock.differ;
-        if differ != 0 {
-            return Hit {
-                found: true,
-                lane: (u64::trailing_zeros(differ) % 64) as u8,
-            };
-        }
-        next = clock.word;
-        left -= 1;
-    }
-    Hit {
-        found: false,
-        lane: 0,
-    }
-}
-
-// The runs, in words that are 0.
-fn run_all(netlist: &[u8], n: u16, fault: Fault, c: u8, words: &mut [u64]) -> Hit {
-    let drawn = draw_start(netlist, n, FIRST_WORD, words);
-    let led = lead_in(netlist, n, fault, c, drawn, words);
-    take_over(n, words);
-    run_both(netlist, n, fault, led, words)
-}
-
-// The same with less room: to clear that for the greatest circuit takes longer than the runs of a small
-// one.
-fn run_few(netlist: &[u8], n: u16, fault: Fault, c: u8) -> Hit {
-    let mut words = [0u64; WORDS * FEW_NODES];
-    run_all(netlist, n, fault, c, &mut words)
+// The runs, in room for so many nodes. To clear the room for the greatest circuit takes longer than the runs
+// of a small one.
+fn run_all<const ROOM: usize>(lanes: Lanes, c: u8) -> Option<u8>
+    requires { ROOM ≤ 4096 }
+{
+    let mut room = [NO_NODE; ROOM];
+    let all: &mut [Node] = &mut room;
+    let nodes = all.get_mut(..lanes.n as usize)?;
+    let drawn = lanes.draw_start(FIRST_WORD, nodes);
+    let led = lanes.lead_in(c, drawn, nodes);
+    take_over(nodes);
+    lanes.run_both(led, nodes)
 }
 
 // Looks for a run that shows the fault at an output at or after clock c.
-pub(crate) fn find_run(netlist: &[u8], n: u16, fault: Fault, c: u8) -> Hit {
+pub(crate) fn find_run(netlist: &[u8], n: u16, fault: Fault, c: u8) -> Option<u8> {
+    let lanes = Lanes { netlist, n, fault };
     if n as usize <= FEW_NODES {
-        return run_few(netlist, n, fault, c);
+        run_all::<FEW_NODES>(lanes, c)
+    } else {
+        run_all::<NODES_AT_MOST>(lanes, c)
     }
-    let mut words = [0u64; WORDS * NODES_AT_MOST];
-    run_all(netlist, n, fault, c, &mut words)
 }

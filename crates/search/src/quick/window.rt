@@ -3,33 +3,35 @@ use circuit::{Circuit, Fault};
 
 // The window of c for a fault in a circuit of n nodes: it has w frames.
 #[derive(Clone, Copy)]
-pub struct Window {
-    pub n: u16,
-    pub fault: Fault,
-    pub c: u8,
-    pub w: u8,
+pub(crate) struct Window {
+    pub(crate) n: u16,
+    pub(crate) fault: Fault,
+    pub(crate) c: u8,
+    pub(crate) w: u8,
 }
 
-// The circuit in a frame: below c it is faulty.
-pub(crate) fn circuit_in(window: Window, frame: u8) -> Circuit {
-    let fault = window.fault;
-    if frame < window.c {
-        Circuit::Faulty(fault)
-    } else {
-        Circuit::Good
+impl Window {
+    // The circuit in a frame: below c it is faulty.
+    pub(crate) fn circuit_in(self, frame: u8) -> Circuit {
+        if frame < self.c {
+            Circuit::Faulty(self.fault)
+        } else {
+            Circuit::Good
+        }
     }
-}
 
-// Where the values of a frame begin, in a circuit of n nodes.
-pub(crate) fn row_of(n: u16, frame: u8) -> u32 {
-    frame as u32 * n as u32
-}
+    // Where the values of a frame begin.
+    pub(crate) fn row_of(self, frame: u8) -> u32 {
+        frame as u32 * self.n as u32
+    }
 
-// The frame behind one; w where there is none.
-pub(crate) fn frame_after(window: Window, frame: u8) -> u8 {
-    if frame < window.w {
-        frame + 1
-    } else {
-        window.w
+    // Where the value of a node at a frame stands.
+    pub(crate) fn place_of(self, node: u16, frame: u8) -> usize {
+        knowledge::place_of(self.n, node, frame as u16)
+    }
+
+    // The frame behind one, where the window has one.
+    pub(crate) fn frame_after(self, frame: u8) -> Option<u8> {
+        frame.checked_add(1).filter(|next| *next < self.w)
     }
 }

@@ -1,8 +1,31 @@
 -- The trace of a window with a lent slice, which has a byte for each node: 1 where it is touched.
 use Rattle.std.specs.Prelude.{Bool, cond, false, List, [], ◌*◌, ◌+◌, ℕ, leb, length}
-use Rattle.netlist.specs.Netlist.{Net}
-use Rattle.circuit.specs.Fault.{StuckLines}
+use Rattle.values.specs.Lists.{at}
+use Rattle.netlist.specs.Netlist.{Net, net_of}
+use Rattle.circuit.specs.Fault.{StuckLines, lines_in}
+use Rattle.knowledge.specs.Inner.Slice.{known_in}
 use Rattle.trace.specs.Trace.{cleared, effect_dies}
+use Rattle.trace.specs.declared.effect.Frame.{Frame}
+use Rattle.trace.specs.declared.effect.Window.{Window}
+
+-- What a frame has, in the words of Trace: the circuit's nodes, the lines that are stuck, and what is known of each node.
+module _ (frame : Frame) where
+  abbrev pub frame_net : Net
+  frame_net = net_of frame.netlist.now
+
+  abbrev pub frame_lines : StuckLines
+  frame_lines = lines_in frame.circuit
+
+  abbrev pub frame_known : ℕ → ℕ
+  frame_known = at frame.values.now
+
+-- and what a window has: what is known, by node and frame
+module _ (window : Window) where
+  abbrev pub window_net : Net
+  window_net = net_of window.netlist.now
+
+  abbrev pub window_known : ℕ → ℕ → ℕ
+  window_known = known_in window.known.now window_net.size
 
 -- the answer of the trace of a window, and what the lent slice then holds
 pub record Traced : Type 0 where

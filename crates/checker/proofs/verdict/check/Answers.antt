@@ -15,12 +15,12 @@ use Rattle.circuit.specs.Fault.{fault_exists}
 use Rattle.netlist.proofs.RefusalLaws.{Passed, fails_here, fails_later}
 use Rattle.netlist.proofs.SoundLaws.{sound-size}
 use Rattle.netlist.specs.Answer.{Outcome, outcome}
-use Rattle.netlist.specs.Netlist.{net_of, reading, sound}
+use Rattle.netlist.specs.Netlist.{net_of, reading, reading_says, sound}
 use Rattle.certificate.specs.Certificate.{fault_of, frames_of, head_length, pairs_right, split_frame, split_node}
 use Rattle.certificate.specs.Inner.Reading.{head_of}
 use Rattle.certificate.specs.declared.layout.Head.{Head}
 use Rattle.knowledge.specs.Window.{most_frames}
-use Rattle.checker.specs.Checker.{CheckerCall, checker_call, checker_tests, check_refused, judged, window_size}
+use Rattle.checker.specs.Checker.{CheckerCall, checker_call, checker_tests, judged, window_size}
 use Rattle.checker.proofs.Theorem.{answer_means}
 use Rattle.checker.proofs.VerdictLaws.{checking-judged, checking-refused, checking-unsound}
 use Rattle.checker.proofs.verdict.check.Goals as goal
@@ -64,41 +64,40 @@ module _ (q : CheckerCall) (n p : ℕ) (h : Head) (s : reading q.netlist ≡ sou
   second-fits : Fit q (n * (h.c + h.f + 1)) ≡ true → n * (h.c + h.f + 1) ≤ length q.second
   second-fits e = leb-true _ _ (and_right (leb (n * (h.c + h.f + 1)) (length q.first)) (leb (n * (h.c + h.f + 1)) (length q.second)) e)
 
-pub returns-in_default-clause-second_after : goal.returns-in_default-clause-second_after
-returns-in_default-clause-second_after c =
+pub returns-in_default-clause-outcome : goal.returns-in_default-clause-outcome
+returns-in_default-clause-outcome c =
     let a = c.args in
     let q = checker_call a.netlist.now a.certificate.now a.first.now a.second.now in
-    let k = c.in_default.field-0 in
-    let number : c.refusal_number.result ≡ k = rw c.refusal_number.ensures (rw c.in_default.is refl) in
-    let answer = ap (λ (x : ℕ). check_refused x q) number ∙ sym (checking-unsound q k (sym c.in_default.ensures)) in
+    let unsound = sym c.read-answer.ensures ∙ ap reading_says c.unwrap_err.ensures in
+    let answer = sym (checking-unsound q _ unsound) in
     assumption answer
 
-pub returns-then-not-layout_right-clause-second_after : goal.returns-then-not-layout_right-clause-second_after
-returns-then-not-layout_right-clause-second_after c =
+pub returns-then-not-layout_right-clause-outcome : goal.returns-then-not-layout_right-clause-outcome
+returns-then-not-layout_right-clause-outcome c =
     let a = c.args in
     let q = checker_call a.netlist.now a.certificate.now a.first.now a.second.now in
     let fails : Layout q ≡ false = sym c.layout_right.ensures ∙ c.if-not-layout_right.true in
-    let answer = sym (checking-refused q 8 (sym c.in-Sound.ensures) (fails_here fails refl)) in
+    let answer = sym (checking-refused q 8 (sym c.in-Ok.ensures) (fails_here fails refl)) in
     assumption answer
 
-pub returns-then-not-fault_exists-clause-second_after : goal.returns-then-not-fault_exists-clause-second_after
-returns-then-not-fault_exists-clause-second_after c =
+pub returns-then-not-fault_exists-clause-outcome : goal.returns-then-not-fault_exists-clause-outcome
+returns-then-not-fault_exists-clause-outcome c =
     let a = c.args in
     let q = checker_call a.netlist.now a.certificate.now a.first.now a.second.now in
-    let s = sym c.in-Sound.ensures in
-    let read = exists-read q c.in-Sound.n c.in-Sound.field-1 c.head_of-head.result s c.head_of-head.ensures in
+    let s = sym c.in-Ok.ensures in
+    let read = exists-read q c.in-Ok.size.nodes c.in-Ok.size.pins c.head_of-head.result s c.head_of-head.ensures in
     let p8 : Layout q ≡ true = sym c.layout_right.ensures ∙ c.if-not-layout_right.false in
     let fails : Exists q ≡ false = sym (c.fault_exists.ensures ∙ read) ∙ c.if-not-fault_exists.true in
     let answer = sym (checking-refused q 9 s (fails_later p8 (fails_here fails refl))) in
     assumption answer
 
-pub returns-then-w-gt-MOST_FRAMES-clause-second_after : goal.returns-then-w-gt-MOST_FRAMES-clause-second_after
-returns-then-w-gt-MOST_FRAMES-clause-second_after c =
+pub returns-then-w-gt-MOST_FRAMES-clause-outcome : goal.returns-then-w-gt-MOST_FRAMES-clause-outcome
+returns-then-w-gt-MOST_FRAMES-clause-outcome c =
     let a = c.args in
     let q = checker_call a.netlist.now a.certificate.now a.first.now a.second.now in
-    let s = sym c.in-Sound.ensures in
-    let exists = exists-read q c.in-Sound.n c.in-Sound.field-1 c.head_of-head.result s c.head_of-head.ensures in
-    let frames = frames-read q c.in-Sound.n c.in-Sound.field-1 c.head_of-head.result s c.head_of-head.ensures in
+    let s = sym c.in-Ok.ensures in
+    let exists = exists-read q c.in-Ok.size.nodes c.in-Ok.size.pins c.head_of-head.result s c.head_of-head.ensures in
+    let frames = frames-read q c.in-Ok.size.nodes c.in-Ok.size.pins c.head_of-head.result s c.head_of-head.ensures in
     let p8 : Layout q ≡ true = sym c.layout_right.ensures ∙ c.if-not-layout_right.false in
     let p9 : Exists q ≡ true = sym (c.fault_exists.ensures ∙ exists) ∙ c.if-not-fault_exists.false in
     let above : most_frames < c.head_of-head.result.c + c.head_of-head.result.f + 1 = omega arith in
@@ -106,14 +105,14 @@ returns-then-w-gt-MOST_FRAMES-clause-second_after c =
     let answer = sym (checking-refused q 10 s (fails_later p8 (fails_later p9 (fails_here fails refl)))) in
     assumption answer
 
-pub returns-then-not-slices_fit-clause-second_after : goal.returns-then-not-slices_fit-clause-second_after
-returns-then-not-slices_fit-clause-second_after c =
+pub returns-then-not-slices_fit-clause-outcome : goal.returns-then-not-slices_fit-clause-outcome
+returns-then-not-slices_fit-clause-outcome c =
     let a = c.args in
     let q = checker_call a.netlist.now a.certificate.now a.first.now a.second.now in
-    let s = sym c.in-Sound.ensures in
-    let exists = exists-read q c.in-Sound.n c.in-Sound.field-1 c.head_of-head.result s c.head_of-head.ensures in
-    let frames = frames-read q c.in-Sound.n c.in-Sound.field-1 c.head_of-head.result s c.head_of-head.ensures in
-    let fit = fit-read q c.in-Sound.n c.in-Sound.field-1 c.head_of-head.result s c.head_of-head.ensures in
+    let s = sym c.in-Ok.ensures in
+    let exists = exists-read q c.in-Ok.size.nodes c.in-Ok.size.pins c.head_of-head.result s c.head_of-head.ensures in
+    let frames = frames-read q c.in-Ok.size.nodes c.in-Ok.size.pins c.head_of-head.result s c.head_of-head.ensures in
+    let fit = fit-read q c.in-Ok.size.nodes c.in-Ok.size.pins c.head_of-head.result s c.head_of-head.ensures in
     let p8 : Layout q ≡ true = sym c.layout_right.ensures ∙ c.if-not-layout_right.false in
     let p9 : Exists q ≡ true = sym (c.fault_exists.ensures ∙ exists) ∙ c.if-not-fault_exists.false in
     let at_most : c.head_of-head.result.c + c.head_of-head.result.f + 1 ≤ most_frames = omega arith in
@@ -122,33 +121,33 @@ returns-then-not-slices_fit-clause-second_after c =
     let answer = sym (checking-refused q 11 s (fails_later p8 (fails_later p9 (fails_later p10 (fails_here fails refl))))) in
     assumption answer
 
-pub returns-then-not-split_within-clause-second_after : goal.returns-then-not-split_within-clause-second_after
-returns-then-not-split_within-clause-second_after c =
+pub returns-then-not-has-clause-outcome : goal.returns-then-not-has-clause-outcome
+returns-then-not-has-clause-outcome c =
     let a = c.args in
     let q = checker_call a.netlist.now a.certificate.now a.first.now a.second.now in
-    let s = sym c.in-Sound.ensures in
-    let exists = exists-read q c.in-Sound.n c.in-Sound.field-1 c.head_of-head.result s c.head_of-head.ensures in
-    let frames = frames-read q c.in-Sound.n c.in-Sound.field-1 c.head_of-head.result s c.head_of-head.ensures in
-    let fit = fit-read q c.in-Sound.n c.in-Sound.field-1 c.head_of-head.result s c.head_of-head.ensures in
-    let within = within-read q c.in-Sound.n c.in-Sound.field-1 c.head_of-head.result s c.head_of-head.ensures in
+    let s = sym c.in-Ok.ensures in
+    let exists = exists-read q c.in-Ok.size.nodes c.in-Ok.size.pins c.head_of-head.result s c.head_of-head.ensures in
+    let frames = frames-read q c.in-Ok.size.nodes c.in-Ok.size.pins c.head_of-head.result s c.head_of-head.ensures in
+    let fit = fit-read q c.in-Ok.size.nodes c.in-Ok.size.pins c.head_of-head.result s c.head_of-head.ensures in
+    let within = within-read q c.in-Ok.size.nodes c.in-Ok.size.pins c.head_of-head.result s c.head_of-head.ensures in
     let p8 : Layout q ≡ true = sym c.layout_right.ensures ∙ c.if-not-layout_right.false in
     let p9 : Exists q ≡ true = sym (c.fault_exists.ensures ∙ exists) ∙ c.if-not-fault_exists.false in
     let at_most : c.head_of-head.result.c + c.head_of-head.result.f + 1 ≤ most_frames = omega arith in
     let p10 : Narrow q ≡ true = rw (← frames) (le-leb _ _ at_most) in
     let p11 : Fit q (window_size q) ≡ true = sym (c.slices_fit.ensures ∙ fit) ∙ c.if-not-slices_fit.false in
-    let fails : Within q ≡ false = sym (c.split_within.ensures ∙ within) ∙ c.if-not-split_within.true in
+    let fails : Within q ≡ false = sym (c.has.ensures ∙ within) ∙ c.if-not-has.true in
     let answer = sym (checking-refused q 13 s (fails_later p8 (fails_later p9 (fails_later p10 (fails_later p11 (fails_here fails refl)))))) in
     assumption answer
 
-pub returns-clause-second_after : goal.returns-clause-second_after
+pub returns-clause-outcome : goal.returns-clause-outcome
 unfolding judged
-returns-clause-second_after c =
+returns-clause-outcome c =
     let a = c.args in
     let q = checker_call a.netlist.now a.certificate.now a.first.now a.second.now in
-    let n = c.in-Sound.n in
-    let p = c.in-Sound.field-1 in
+    let n = c.in-Ok.size.nodes in
+    let p = c.in-Ok.size.pins in
     let h = c.head_of-head.result in
-    let s = sym c.in-Sound.ensures in
+    let s = sym c.in-Ok.ensures in
     let r = c.head_of-head.ensures in
     let w = window-read q n p h s r in
     let p8 : Layout q ≡ true = sym c.layout_right.ensures ∙ c.if-not-layout_right.false in
@@ -157,7 +156,7 @@ returns-clause-second_after c =
     let p10 : Narrow q ≡ true = rw (← frames-read q n p h s r) (le-leb _ _ at_most) in
     let fit : Fit q (n * (h.c + h.f + 1)) ≡ true = sym c.slices_fit.ensures ∙ c.if-not-slices_fit.false in
     let p11 : Fit q (window_size q) ≡ true = sym (fit-read q n p h s r) ∙ fit in
-    let p13 : Within q ≡ true = sym (c.split_within.ensures ∙ within-read q n p h s r) ∙ c.if-not-split_within.false in
+    let p13 : Within q ≡ true = sym (c.has.ensures ∙ within-read q n p h s r) ∙ c.if-not-has.false in
     let passed : Passed checker_tests q = (p8, (p9, (p10, (p11, (p13, tt))))) in
     let j = c.judge.ensures in
     let v = ap (λ (o : Outcome). o.answer) j in
@@ -165,7 +164,7 @@ returns-clause-second_after c =
     let y = ap (λ (o : Outcome). o.second) j ∙ ap (λ (m : ℕ). replicate m 0) (length-take-le _ q.second (second-fits q n p h s r fit) ∙ w) in
     (λ i. outcome (v i) (x i ++ drop (w i) q.first) (y i ++ drop (w i) q.second)) ∙ sym (checking-judged q s passed)
 
-pub returns-clause-by_index : goal.returns-clause-by_index
-returns-clause-by_index c =
+pub returns-clause-means_redundant : goal.returns-clause-means_redundant
+returns-clause-means_redundant c =
     let a = c.args in
-    (answer_means (checker_call a.netlist.now a.certificate.now a.first.now a.second.now) (returns-clause-second_after c)).1
+    (answer_means (checker_call a.netlist.now a.certificate.now a.first.now a.second.now) (returns-clause-outcome c)).1

@@ -1,13 +1,11 @@
 -- What a relation concludes, by its definition's two cases: of the output (`conclude_output`) and of a pin's source (`conclude_pin`). Both
 -- want the relation's parts: the pins' frame, the number of nodes, the stuck lines in that frame, and the values, which are those of
 -- the known slice from that frame's first place on.
-use Prim.Native.Nat.{ℕ, ◌*◌, ◌+◌}
-use mathlib.Core.Path.{◌≡◌, ◌∙◌, ap}
-use lib.ListN.{drop}
+use mathlib.Core.Path.{◌∙◌, ap}
 use Rattle.values.specs.Lists.{at}
 use Rattle.netlist.specs.Netlist.{net_of}
 use Rattle.circuit.specs.Fault.{lines_of}
-use Rattle.knowledge.specs.Window.{pin_frame, present_below}
+use Rattle.knowledge.specs.Window.{present_below}
 use Rattle.knowledge.proofs.WindowLaws.{conclude_output, conclude_pin}
 use Rattle.knowledge.proofs.relation.conclude.Goals as goal
 
@@ -15,26 +13,16 @@ pub returns-then-line-eq0 : goal.returns-then-line-eq0
 unfolding net_of
 returns-then-line-eq0 c =
     let a = c.args in
-    let net = net_of a.netlist.now in
-    let known = a.known.now in
-    let frame_is : c.pin_frame-pins_at.result ≡ pin_frame (net.kind a.node) a.frame =
-    c.pin_frame-pins_at.ensures ∙ ap (λ (k : ℕ). pin_frame k a.frame) c.kind_of.ensures in
-    let values_are : c.tail-values.result.now ≡ drop (c.pin_frame-pins_at.result * c.node_count-n.result + 0) known =
-    c.tail-values.ensures ∙ ap (λ (k : ℕ). drop k known) c.place_of.ensures in
+    let frame_is = c.pin_frame-pins_at.ensures in
     rw c.if-line-eq0.true
-    (conclude_output net (present_below a.c (lines_of a.fault)) known a.node a.frame _ _ _ _ frame_is c.node_count-n.ensures
-    c.circuit_in-circuit.ensures values_are c.gate_value-value.result c.gate_value-value.ensures)
+    (conclude_output (net_of a.netlist.now) (present_below a.c (lines_of a.fault)) a.known.now a.node a.frame _ _ _ _ _ frame_is c.node_count-n.ensures
+    c.circuit_in-circuit.ensures c.place_of.ensures c.tail-values.ensures _ c.gate_value-value.ensures)
 
 pub returns : goal.returns
 unfolding net_of
 returns c =
     let a = c.args in
-    let net = net_of a.netlist.now in
-    let known = a.known.now in
-    let frame_is : c.pin_frame-pins_at.result ≡ pin_frame (net.kind a.node) a.frame =
-    c.pin_frame-pins_at.ensures ∙ ap (λ (k : ℕ). pin_frame k a.frame) c.kind_of.ensures in
-    let values_are : c.tail-values.result.now ≡ drop (c.pin_frame-pins_at.result * c.node_count-n.result + 0) known =
-    c.tail-values.ensures ∙ ap (λ (k : ℕ). drop k known) c.place_of.ensures in
-    let output = c.byte_at-output.ensures ∙ ap (at known) c.place_of-2.ensures in
-    conclude_pin net (present_below a.c (lines_of a.fault)) known a.node a.frame _ _ _ _ frame_is c.node_count-n.ensures c.circuit_in-circuit.ensures values_are
-    a.line _ _ _ c.if-line-eq0.false c.pin_source-source.ensures output c.pin_conclusion-value.ensures
+    let frame_is = c.pin_frame-pins_at.ensures in
+    let output = c.byte_at-output.ensures ∙ ap (at a.known.now) c.place_of-2.ensures in
+    conclude_pin (net_of a.netlist.now) (present_below a.c (lines_of a.fault)) a.known.now a.node a.frame _ _ _ _ _ frame_is c.node_count-n.ensures
+    c.circuit_in-circuit.ensures c.place_of.ensures c.tail-values.ensures a.line _ _ _ c.if-line-eq0.false c.pin_source-source.ensures output c.conclusion-value.ensures

@@ -1,10 +1,6 @@
 use Rattle.knowledge.specs.Inner.Slice.{hold_frames}
 use mathlib.Core.Path.{◌≡◌}
-use Prim.Native.Nat.{◌≤◌, ◌-◌}
 use Rattle.knowledge.proofs.window.hold_fault.Given as goal
 
 abbrev pub invariant-loop-frame : goal.invariant-loop-frame
-invariant-loop-frame l = (l.frame ≤ l.c) × (l.known ≡ hold_frames l.n l.fault l.frame l.initial.known)
-
-abbrev pub decreases-loop-frame : goal.decreases-loop-frame
-decreases-loop-frame l = l.c - l.frame
+invariant-loop-frame l = l.known ≡ hold_frames l.n l.fault l.frame l.initial.known

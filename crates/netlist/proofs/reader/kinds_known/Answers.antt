@@ -1,25 +1,9 @@
-use Rattle.values.proofs.ListLaws.{every_more, every_fails}
-use borrow.Author.Tests.{le-leb, lt-leb}
+use Rattle.std.proofs.Common.{rules, tests}
+use Rattle.gates.proofs.KindLaws.{named_known}
 use Rattle.netlist.specs.Netlist.{kind_known}
-use mathlib.Core.Path.{refl, sym}
-use native.Mathlib.Omega.{arith}
-use Rattle.values.specs.Lists.{every}
+use Rattle.values.proofs.RangeLaws.{all_below}
 use Rattle.netlist.proofs.reader.kinds_known.Goals as goal
 
-pub loop-node-init : goal.loop-node-init
-unfolding every
-loop-node-init c = (omega arith, refl)
-
-pub returns-then-kind_of-gt-LAST_KIND : goal.returns-then-kind_of-gt-LAST_KIND
+pub returns : goal.returns
 unfolding kind_known
-returns-then-kind_of-gt-LAST_KIND c =
-    let s = c.args.netlist.now in
-    let i = c.loop-node.node in
-    sym (every_fails (kind_known s) _ i c.loop-node-test.true (rw (← c.kind_of.ensures) (lt-leb _ _ c.if-kind_of-gt-LAST_KIND.true)))
-
-pub loop-node-preserved : goal.loop-node-preserved
-unfolding kind_known
-loop-node-preserved c =
-    let s = c.args.netlist.now in
-    let l = c.loop-node in
-    (omega arith, every_more (kind_known s) l.node l.invariant.1 (rw (← c.kind_of.ensures) (le-leb _ _ c.if-kind_of-gt-LAST_KIND.false)))
+returns c = all_below (kind_known c.args.netlist.now) c.args.n _ _ _ c.all.ensures.ran (λ x b q k. search (rules, tests, named_known))

@@ -6,7 +6,7 @@ use mathlib.Core.List.{List}
 use mathlib.Core.Path.{◌≡◌, ◌∙◌, refl}
 use Prim.Native.Nat.{◌*◌, ◌+◌, ℕ}
 use borrow.Author.Tests.{eq-eqb, le-leb, lt-leb, ne_eqb}
-use Rattle.netlist.proofs.NetlistLaws.{read-refused, read-sound}
+use Rattle.netlist.proofs.NetlistLaws.{read_refused, read_sound}
 use Rattle.netlist.proofs.RefusalLaws.{fails_here, fails_later}
 use Rattle.netlist.specs.Netlist.{count_fits, kind_known, node_count, pair_joined, pair_start, pin_count, sizes_allowed, sound, sources_allowed}
 use Rattle.values.specs.Lists.{every}
@@ -35,14 +35,14 @@ pub returns-then-netlist-lt4 : goal.returns-then-netlist-lt4
 returns-then-netlist-lt4 c =
     let bs = c.args.netlist.now in
     let fails : leb 4 (length bs) ≡ false = lt-leb _ _ c.if-netlist-lt4.true in
-    read-refused _ 1 (fails_here fails refl)
+    read_refused _ 1 (fails_here fails refl)
 
 pub returns-then-not-sizes_allowed : goal.returns-then-not-sizes_allowed
 returns-then-not-sizes_allowed c =
     let bs = c.args.netlist.now in
     let p1 : leb 4 (length bs) ≡ true = le-leb 4 _ c.if-netlist-lt4.false in
     let fails : Sizes bs ≡ false = cc in
-    read-refused _ 2 (fails_later p1 (fails_here fails refl))
+    read_refused _ 2 (fails_later p1 (fails_here fails refl))
 
 pub returns-then-netlist-n : goal.returns-then-netlist-n
 returns-then-netlist-n c =
@@ -50,7 +50,7 @@ returns-then-netlist-n c =
     let p1 : leb 4 (length bs) ≡ true = le-leb 4 _ c.if-netlist-lt4.false in
     let p2 : Sizes bs ≡ true = cc in
     let fails : Whole bs ≡ false = rw (← c.node_count-n.ensures, ← c.pin_count-p.ensures) (ne_eqb _ _ c.if-netlist-n.true) in
-    read-refused _ 3 (fails_later p1 (fails_later p2 (fails_here fails refl)))
+    read_refused _ 3 (fails_later p1 (fails_later p2 (fails_here fails refl)))
 
 pub returns-then-not-kinds_known : goal.returns-then-not-kinds_known
 returns-then-not-kinds_known c =
@@ -59,7 +59,7 @@ returns-then-not-kinds_known c =
     let p2 : Sizes bs ≡ true = cc in
     let p3 : Whole bs ≡ true = rw (← c.node_count-n.ensures, ← c.pin_count-p.ensures) (eq-eqb _ _ c.if-netlist-n.false) in
     let fails : Kinds bs ≡ false = cc in
-    read-refused _ 4 (fails_later p1 (fails_later p2 (fails_later p3 (fails_here fails refl))))
+    read_refused _ 4 (fails_later p1 (fails_later p2 (fails_later p3 (fails_here fails refl))))
 
 pub returns-then-not-pairs_joined : goal.returns-then-not-pairs_joined
 returns-then-not-pairs_joined c =
@@ -69,7 +69,7 @@ returns-then-not-pairs_joined c =
     let p3 : Whole bs ≡ true = rw (← c.node_count-n.ensures, ← c.pin_count-p.ensures) (eq-eqb _ _ c.if-netlist-n.false) in
     let p4 : Kinds bs ≡ true = cc in
     let fails : Pairs bs ≡ false = cc in
-    read-refused _ 5 (fails_later p1 (fails_later p2 (fails_later p3 (fails_later p4 (fails_here fails refl)))))
+    read_refused _ 5 (fails_later p1 (fails_later p2 (fails_later p3 (fails_later p4 (fails_here fails refl)))))
 
 pub returns-then-not-counts_fit : goal.returns-then-not-counts_fit
 returns-then-not-counts_fit c =
@@ -80,7 +80,7 @@ returns-then-not-counts_fit c =
     let p4 : Kinds bs ≡ true = cc in
     let p5 : Pairs bs ≡ true = cc in
     let fails : Counts bs ≡ false = cc in
-    read-refused _ 6 (fails_later p1 (fails_later p2 (fails_later p3 (fails_later p4 (fails_later p5 (fails_here fails refl))))))
+    read_refused _ 6 (fails_later p1 (fails_later p2 (fails_later p3 (fails_later p4 (fails_later p5 (fails_here fails refl))))))
 
 pub returns-then-not-all_sources_allowed : goal.returns-then-not-all_sources_allowed
 returns-then-not-all_sources_allowed c =
@@ -92,7 +92,7 @@ returns-then-not-all_sources_allowed c =
     let p5 : Pairs bs ≡ true = cc in
     let p6 : Counts bs ≡ true = cc in
     let fails : Sources bs ≡ false = cc in
-    read-refused _ 7 (fails_later p1 (fails_later p2 (fails_later p3 (fails_later p4 (fails_later p5 (fails_later p6 (fails_here fails refl)))))))
+    read_refused _ 7 (fails_later p1 (fails_later p2 (fails_later p3 (fails_later p4 (fails_later p5 (fails_later p6 (fails_here fails refl)))))))
 
 pub returns : goal.returns
 returns c =
@@ -105,4 +105,4 @@ returns c =
     let p6 : Counts bs ≡ true = cc in
     let p7 : Sources bs ≡ true = cc in
     (λ i. sound (c.node_count-n.ensures i) (c.pin_count-p.ensures i))
-    ∙ read-sound _ (p1, (p2, (p3, (p4, (p5, (p6, (p7, tt)))))))
+    ∙ read_sound _ (p1, (p2, (p3, (p4, (p5, (p6, (p7, tt)))))))

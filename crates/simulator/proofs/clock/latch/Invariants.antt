@@ -1,4 +1,3 @@
-use Prim.Native.Nat.{◌≤◌, ◌-◌}
 use Rattle.values.specs.Lists.{at}
 use Rattle.values.specs.Inner.Rewriting.{rewritten}
 use Rattle.simulator.specs.Clock.{latched_by}
@@ -7,9 +6,6 @@ use mathlib.Core.Path.{◌≡◌}
 use Rattle.circuit.specs.Fault.{lines_in}
 use Rattle.simulator.proofs.clock.latch.Given as goal
 
-abbrev pub invariant-loop-node : goal.invariant-loop-node
-invariant-loop-node l =
-    (l.node ≤ l.n) × (l.second ≡ rewritten (λ _. latched_by (net_of l.netlist) (lines_in l.circuit) (at l.seen)) l.node l.initial.second)
-
-abbrev pub decreases-loop-node : goal.decreases-loop-node
-decreases-loop-node l = l.n - l.node
+abbrev pub invariant-loop-number : goal.invariant-loop-number
+invariant-loop-number l =
+    l.second ≡ rewritten (λ _. latched_by (net_of l.netlist) (lines_in l.circuit) (at l.seen)) l.number l.initial.second

@@ -1,12 +1,8 @@
 use Rattle.netlist.specs.Netlist.{net_of}
 use Rattle.simulator.specs.Clock.{place_fits}
-use Rattle.values.proofs.ListLaws.{every_fails}
-use mathlib.Core.Path.{sym, ◌∙◌}
+use Rattle.values.proofs.RangeLaws.{all_below}
+use Rattle.std.proofs.Common.{rules}
 use Rattle.simulator.proofs.clock.places_fit.Goals as goal
 
-pub returns-then-not-place_fits : goal.returns-then-not-place_fits
-returns-then-not-place_fits c =
-    let a = c.args in
-    let l = c.loop-node in
-    let fails = sym c.place_fits.ensures ∙ c.if-not-place_fits.true in
-    sym (every_fails (place_fits (net_of a.netlist.now) a.first.now) _ l.node c.loop-node-test.true fails)
+pub returns : goal.returns
+returns c = all_below (place_fits (net_of c.args.netlist.now) c.args.first.now) c.args.n _ _ _ c.all.ensures.ran (λ x b q h. search rules)

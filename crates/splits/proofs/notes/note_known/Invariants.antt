@@ -1,4 +1,3 @@
-use Prim.Native.Nat.{◌-◌, ◌≤◌}
 use mathlib.Core.Path.{◌≡◌}
 use lib.ListN.{length}
 use Rattle.values.specs.Inner.Rewriting.{rewritten}
@@ -8,7 +7,4 @@ use Rattle.splits.proofs.notes.note_known.Given as goal
 -- the notes keep their length, and are those that were given, rewritten at all places below `place`
 abbrev pub invariant-loop-place : goal.invariant-loop-place
 invariant-loop-place l =
-    (l.place ≤ length l.known) × (length l.noted ≡ length l.initial.noted) × (l.noted ≡ rewritten (note_over l.known l.c) l.place l.initial.noted)
-
-abbrev pub decreases-loop-place : goal.decreases-loop-place
-decreases-loop-place l = length l.known - l.place
+    (length l.noted ≡ length l.initial.noted) × (l.noted ≡ rewritten (note_over l.known l.c) l.place l.initial.noted)
