@@ -144,29 +144,25 @@ pub fn conclude(
     let circuit = circuit_in(fault, c, pins_at);
     let values = values::tail(known, place_of(n, 0, pins_at as u16));
     if line == 0 {
-        let value = simulator::gate_value(netlist, circuit, values, node);
         return Step {
             node,
             frame,
-            value,
+            value: simulator::gate_value(netlist, circuit, values, node),
             via: node,
             during: frame,
         };
     }
-    let output = values::byte_at(known, place_of(n, node, frame as u16));
-    let source = pin_source(netlist, node, line - 1);
-    let known = KnownOutput {
+    let pins = KnownOutput {
         netlist,
         circuit,
         values,
         node,
-        output,
+        output: values::byte_at(known, place_of(n, node, frame as u16)),
     };
-    let value = known.conclusion(line - 1);
     Step {
-        node: source,
+        node: pin_source(netlist, node, line - 1),
         frame: pins_at,
-        value,
+        value: pins.conclusion(line - 1),
         via: node,
         during: frame,
     }

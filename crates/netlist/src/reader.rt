@@ -167,14 +167,14 @@ fn source_limit(netlist: &[u8], n: u16, node: u16) -> u16
     }
 }
 
-// Whether a pin names a source that it may name: besides the limit, no pin names an output.
+// Whether a pin names a source that it may name: below the node's limit, and no output.
 #[tactic(auto, unfolding(crate::specs::Netlist::source_allowed))]
-fn source_allowed(netlist: &[u8], n: u16, node: u16, pin: u16) -> bool
-    requires { n ≡ node_count netlist.now }
+fn source_allowed(netlist: &[u8], limit: u16, node: u16, pin: u16) -> bool
+    requires { limit ≡ cond (is_flip_flop (kind_of netlist.now node)) (node_count netlist.now) node }
     ensures { result ≡ source_allowed netlist.now node pin }
 {
     let source = source_of(netlist, node, pin);
-    source < source_limit(netlist, n, node) && !is_of_kind(netlist, source, Kind::Output)
+    source < limit && !is_of_kind(netlist, source, Kind::Output)
 }
 
 // Whether each of a node's pins names a source that it may name.
@@ -182,7 +182,8 @@ fn sources_allowed(netlist: &[u8], n: u16, node: u16) -> bool
     requires { n ≡ node_count netlist.now }
     ensures { result ≡ sources_allowed netlist.now node }
 {
-    (0..length_of(netlist, node)).all(|pin| source_allowed(netlist, n, node, pin))
+    let limit = source_limit(netlist, n, node);
+    (0..length_of(netlist, node)).all(|pin| source_allowed(netlist, limit, node, pin))
 }
 
 // Whether each pin of the first n nodes names a source that it may name.

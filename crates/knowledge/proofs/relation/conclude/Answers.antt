@@ -16,13 +16,13 @@ returns-then-line-eq0 c =
     let frame_is = c.pin_frame-pins_at.ensures in
     rw c.if-line-eq0.true
     (conclude_output (net_of a.netlist.now) (present_below a.c (lines_of a.fault)) a.known.now a.node a.frame _ _ _ _ _ frame_is c.node_count-n.ensures
-    c.circuit_in-circuit.ensures c.place_of.ensures c.tail-values.ensures _ c.gate_value-value.ensures)
+    c.circuit_in-circuit.ensures c.place_of.ensures c.tail-values.ensures _ c.gate_value.ensures)
 
 pub returns : goal.returns
 unfolding net_of
 returns c =
     let a = c.args in
     let frame_is = c.pin_frame-pins_at.ensures in
-    let output = c.byte_at-output.ensures ∙ ap (at a.known.now) c.place_of-2.ensures in
+    let output = c.byte_at.ensures ∙ ap (at a.known.now) c.place_of-2.ensures in
     conclude_pin (net_of a.netlist.now) (present_below a.c (lines_of a.fault)) a.known.now a.node a.frame _ _ _ _ _ frame_is c.node_count-n.ensures
-    c.circuit_in-circuit.ensures c.place_of.ensures c.tail-values.ensures a.line _ _ _ c.if-line-eq0.false c.pin_source-source.ensures output c.conclusion-value.ensures
+    c.circuit_in-circuit.ensures c.place_of.ensures c.tail-values.ensures a.line _ _ _ c.if-line-eq0.false c.pin_source.ensures output c.conclusion.ensures
