@@ -65,23 +65,19 @@ const BELIEVES_RUNS: Edit = Edit {
 /// A set that is proposed is not swept.
 const BELIEVES_PROPOSED: Edit = Edit {
     file: "search/notes.rt",
-    old: "sweeps::note_open(
-                self.netlist,
-                self.fault,
-                split.c,
-                self.f,
-                known,
-                spare,
-                noted,
-            );",
-    new: "splits::note_known(known, split.c, noted);",
+    old: "noted) {
+            self.note_open(c);",
+    new: "noted) {
+            splits::note_known(known, c, noted);",
 };
 
 /// A set that is guessed is not swept.
 const BELIEVES_GUESSED: Edit = Edit {
     file: "search/notes.rt",
-    old: "sweeps::note_open(self.netlist, self.fault, c, self.f, known, spare, noted);",
-    new: "splits::note_known(known, c, noted);",
+    old: "keep_small(known);
+        self.note_open(c);",
+    new: "keep_small(known);
+        splits::note_known(known, c, noted);",
 };
 
 /// A guess may hold notes.
@@ -94,16 +90,29 @@ const BELIEVES_NOTES: Edit = Edit {
 /// A split for which no set is noted is not worked out.
 const BELIEVES_CLOSINGS: Edit = Edit {
     file: "search/branch.rt",
-    old: "if sweeps::both_close(self.netlist, self.fault, self.f, split, known, spare) {",
-    new: "if true {",
+    old: "if sweeps::both_close(",
+    new: "if true || sweeps::both_close(",
 };
 
 /// A split that is worked out is counted.
 const COUNTED: Edit = Edit {
     file: "search/branch.rt",
-    old: "if sweeps::both_close(self.netlist, self.fault, self.f, split, known, spare) {",
-    new: "let closes = sweeps::both_close(self.netlist, self.fault, self.f, split, known, spare);
-        if crate::counts::count(closes) {",
+    old: "if sweeps::both_close(
+            question.netlist,
+            question.fault,
+            question.f,
+            split,
+            known,
+            spare,
+        ) {",
+    new: "if crate::counts::count(sweeps::both_close(
+            question.netlist,
+            question.fault,
+            question.f,
+            split,
+            known,
+            spare,
+        )) {",
 };
 
 /// The copies that the tests call.
@@ -170,17 +179,15 @@ const MISTAKES: [Edit; 7] = [
     // A faulted line is as it would be without the fault.
     Edit {
         file: "search/quick/relation.rt",
-        old: "circuit: window.circuit_in(pins_at),",
-        new: "circuit: match crate::mistakes::made(1) {
-            true => Circuit::Good,
-            false => window.circuit_in(pins_at),
-        },",
+        old: "circuit: if fault.node == node {",
+        new: "circuit: if fault.node == node && !crate::mistakes::made(1) {",
     },
     // Values that contradict the set stay in it.
     Edit {
         file: "search/quick/trail.rt",
-        old: "for number in (from..self.end).rev() {",
-        new: "for number in (from..self.end).rev().take_while(|_| !crate::mistakes::made(2)) {",
+        old: "for &place in self.places.get(from..self.end).unwrap_or(&[]) {",
+        new: "let places = self.places.get(from..self.end).unwrap_or(&[]).iter();
+        for &place in places.take_while(|_| !crate::mistakes::made(2)) {",
     },
     // The effect never dies.
     Edit {
@@ -191,14 +198,17 @@ const MISTAKES: [Edit; 7] = [
     // A node is missing in the lists of who reads whom.
     Edit {
         file: "search/quick/fan.rt",
-        old: "self.put_word(place as usize, node);",
-        new: "self.put_word(place as usize, if crate::mistakes::made(4) { 0 } else { node });",
+        old: "*reader = node;",
+        new: "*reader = if crate::mistakes::made(4) { 0 } else { node };",
     },
     // A run is named though none shows the fault.
     Edit {
         file: "search/quick/lanes.rt",
-        old: "        None\n",
-        new: "        crate::mistakes::made(5).then_some(0)\n",
+        old: "(differ != 0).then(|| differ.trailing_zeros() as u8)
+        })",
+        new: "(differ != 0).then(|| differ.trailing_zeros() as u8)
+        })
+        .or_else(|| crate::mistakes::made(5).then_some(0))",
     },
     // A set is proposed where both branches seem to close.
     Edit {

@@ -3,7 +3,8 @@
 // slice that is written overlaps no other. Any numbers and any bytes then get an answer.
 #![tactic(auto)]
 
-ghost use Rattle.std.specs.Prelude.{◌⊎◌, ◌≡◌, ℕ, ◌*◌, ◌+◌, ◌<◌, take};
+ghost use Rattle.std.specs.Prelude.{◌⊎◌, ◌≡◌, ℕ, ◌*◌, ◌+◌, ◌<◌, MatchResult, take};
+ghost use Rattle.std.specs.Result.{ForOk};
 ghost use Rattle.netlist.specs.Answer.{number_of, refused};
 ghost use Rattle.netlist.specs.Refusal.{number_of_refusal};
 ghost use Rattle.netlist.specs.Netlist.{reading, reading_says};
@@ -17,8 +18,7 @@ ghost use Rattle.finder.specs.Finder.{finding, finding_says, found, nothing_foun
 ghost use Rattle.finder.specs.Marks.{IsMark, NoneCloses};
 
 use circuit::{Circuit, Fault, Site};
-use finder::Mark;
-use netlist::{Refusal, Size};
+use netlist::Refusal;
 
 fn fault_of(node: u16, site: u8, u: u8) -> Fault
     ensures { result ≡ site_fault node site u }
@@ -39,51 +39,13 @@ fn circuit_of(faulted: u8, node: u16, site: u8, u: u8) -> Circuit
     Circuit::Faulty(fault_of(node, site, u))
 }
 
-// The numbers of answers. They are no From: neither an answer nor a number is a type of this crate.
-fn number_of_refusal(refusal: Refusal) -> u64
-    ensures { result ≡ number_of_refusal refusal }
+// The number of an answer: the refusal's, or the one that is made of what the answer says. It is no From:
+// neither an answer nor a number is a type of this crate.
+fn number_of<T, F: FnOnce(T) -> u64>(answer: Result<T, Refusal>, number: F) -> u64
+    requires { ForOk answer (F.pre number) }
+    ensures { MatchResult answer (λ x. F.post number x result) (λ refusal. result ≡ number_of_refusal refusal) }
 {
-    u8::from(refusal) as u64
-}
-
-fn number_of_reading(answer: Result<Size, Refusal>) -> u64
-    ensures { result ≡ read_number (reading_says answer) }
-{
-    match answer {
-        Ok(size) => 4294967296 + 65536 * (size.nodes as u64) + size.pins as u64,
-        Err(refusal) => number_of_refusal(refusal),
-    }
-}
-
-fn number_of_step(answer: Result<(), Refusal>) -> u64
-    ensures { result ≡ number_of (stepped_says answer) }
-{
-    match answer {
-        Ok(()) => 0,
-        Err(refusal) => number_of_refusal(refusal),
-    }
-}
-
-fn number_of_check(answer: Result<u8, Refusal>) -> u64
-    ensures value { result ≡ check_number (checked_says answer) }
-    ensures means_accepted { (c : ℕ) → result ≡ 4294967296 + c → checked_says answer ≡ accepted c }
-{
-    match answer {
-        Ok(c) => 4294967296 + c as u64,
-        Err(refusal) => number_of_refusal(refusal),
-    }
-}
-
-fn number_of_finding(answer: Result<Option<Mark>, Refusal>) -> u64
-    ensures value { result ≡ find_number (finding_says answer) }
-    ensures means_found { (c l : ℕ) → l < 4294967296 → result ≡ 4294967296 * (c + 1) + l → (k : ℕ) × (finding_says answer ≡ found c l k) }
-    ensures means_none { result ≡ 0 → (finding_says answer ≡ nothing_found) ⊎ (finding_says answer ≡ refused 0) }
-{
-    match answer {
-        Ok(Some(mark)) => 4294967296 * (mark.c as u64 + 1) + mark.length as u64,
-        Ok(None) => 0,
-        Err(refusal) => number_of_refusal(refusal),
-    }
+    answer.map_or_else(|refusal| u8::from(refusal) as u64, number)
 }
 
 // Whether a netlist is sound: the refusal's number, or 2^32 + 65,536 × N + P.
@@ -91,7 +53,9 @@ fn number_of_finding(answer: Result<Option<Mark>, Refusal>) -> u64
 pub extern "C" fn leverpeach_read(netlist: &[u8]) -> u64
     ensures { result ≡ read_number (reading netlist.now) }
 {
-    number_of_reading(netlist::read(netlist))
+    number_of(netlist::read(netlist), |size| {
+        4294967296 + 65536 * (size.nodes as u64) + size.pins as u64
+    })
 }
 
 // One clock step: 0 for done, or the refusal's number. Where `faulted` is 0 the circuit is good,
@@ -109,7 +73,7 @@ pub extern "C" fn leverpeach_simulate(
     ensures { numbered_outcome result first.new second.new ≡ numbered_by number_of (simulation (simulator_call netlist.now (circuit_of faulted node site u) first.old second.old)) }
 {
     let circuit = circuit_of(faulted, node, site, u);
-    number_of_step(simulator::simulate(netlist, circuit, first, second))
+    number_of(simulator::simulate(netlist, circuit, first, second), |()| 0)
 }
 
 // Whether a certificate is accepted: the refusal's number, or 2^32 + c. Then, from clock c on, every
@@ -125,7 +89,8 @@ pub extern "C" fn leverpeach_check(
     ensures outcome { numbered_outcome result first.new second.new ≡ numbered_by check_number (checking (checker_call netlist.now certificate.now first.old second.old)) }
     ensures means_redundant { (c : ℕ) → result ≡ 4294967296 + c → Redundant netlist.now (fault_of certificate.now) c }
 {
-    number_of_check(checker::check(netlist, certificate, first, second))
+    let answer = checker::check(netlist, certificate, first, second);
+    number_of(answer, |c| 4294967296 + c as u64)
 }
 
 // Finds a mark for a fault: 0 for none, the refusal's number, or 2^32 × (c + 1) + the length of the
@@ -149,5 +114,11 @@ pub extern "C" fn leverpeach_find(
     ensures means_none_closes { result ≡ 0 → NoneCloses netlist.now (site_fault node site u) b f }
 {
     let fault = fault_of(node, site, u);
-    number_of_finding(finder::find(netlist, fault, b, f, first, second, certificate))
+    let answer = finder::find(netlist, fault, b, f, first, second, certificate);
+    number_of(answer, |mark| {
+        mark.map_or(
+            0,
+            |mark| 4294967296 * (mark.c as u64 + 1) + mark.length as u64,
+        )
+    })
 }

@@ -10,6 +10,6 @@ mod writer;
 
 pub use layout::{HEAD_LENGTH, Head, head_of, layout_right, run_length, run_offset};
 pub use reader::{StepReader, steps};
-pub use room::check_slices;
+pub use room::{check_slices, check_work_slices};
 pub use step::{STEP_LENGTH, Step};
 pub use writer::{put_step, write_head};

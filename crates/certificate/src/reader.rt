@@ -6,7 +6,7 @@ ghost use Rattle.certificate.specs.Inner.Reading.{steps_left};
 
 use crate::step::{STEP_LENGTH, Step, step_at};
 
-// A branch's run, and the position of the step that comes next.
+// A branch's run, and the position of the step that comes next: the thin reader that document 01 names.
 #[derive(Clone, Copy)]
 pub struct StepReader<'a> {
     run: &'a [u8],

@@ -1,16 +1,15 @@
 -- What holds of text: numbers in decimal, and runs of bytes that are written one after the other.
 use mathlib.Core.List.{List, [], ◌++◌, ◌∷◌}
 use mathlib.Core.Path.{◌∙◌, ◌≡◌, ap, sym}
-use Prim.Native.Nat.{◌%◌, ◌*◌, ◌+◌, ◌-◌, ◌/◌, ◌<◌, ◌≤◌, suc, zero, ℕ}
+use Prim.Native.Nat.{◌%◌, ◌*◌, ◌+◌, ◌/◌, ◌<◌, ◌≤◌, suc, zero, ℕ}
 use native.Mathlib.Decide.{dec_lt}
 use native.Mathlib.Omega.{arith}
 use borrow.Author.Tests.{le-ltb, lt-ltb}
-use borrow.Rule.Slice.PartMut.{mid_of, put_mid}
 use lib.ListN.{drop, length, length-append, set, take}
 use lib.Seq.{sets, sets-eq, take_all, take-append-le}
 use Rattle.fault_list.specs.Inner.Put.{Put, field_length, number_length, put, put_at}
 use Rattle.fault_list.specs.Text.{decimal, digit, digits, field}
-use Rattle.values.proofs.SetsLaws.{sets-after, sets_in_part, sets_past}
+use Rattle.values.proofs.SetsLaws.{sets-after}
 
 -- one byte more
 pub byte-after : (us l : List ℕ) (a b : ℕ) → set (sets l a us) (a + length us) b ≡ sets l a (us ++ (b ∷ []))
@@ -40,14 +39,6 @@ runs {l} {m} {k} {a} {b} {d} {us} {vs} p q =
       holds = q.holds ∙ rw (p.holds, p.ends) (sets-after us vs l a);
       ends = simp length-append (omega (arith, p.ends, q.ends));
     }
-
--- a text that is put into the part of a slice from a place on, and one that would start past the end
-pub put_within : (us l m : List ℕ) (a : ℕ) → m ≡ sets (mid_of a (length l - a) l) 0 us → a < length l → put (length us) (put_mid a (length l - a) l m) ≡ put_at l a us
-put_within us l m a e h =
-    ap (λ (p : List ℕ). put (length us) (put_mid a (length l - a) l p)) e ∙ ap (put (length us)) (sets_in_part us l a (omega arith))
-
-pub put_past : (us l : List ℕ) (a : ℕ) → length l ≤ a → put (length us) l ≡ put_at l a us
-put_past us l a h = ap (put (length us)) (sets_past us l a h)
 
 -- a number of one digit, and of more
 digits_one : (k n : ℕ) → n < 10 → digits (suc k) n ≡ digit n ∷ []

@@ -1,11 +1,11 @@
 -- The walk that `fault_after` makes for any bytes is the walk through the fault list, where the netlist is sound.
-use mathlib.Core.Bool.{true}
+use mathlib.Core.Bool.{cond, true}
 use mathlib.Core.List.{List, [], ◌∷◌}
-use mathlib.Core.Path.{◌≡◌, ap, refl}
+use mathlib.Core.Path.{◌∙◌, ◌≡◌, ap, refl}
 use Prim.Native.Nat.{min, ◌+◌, ◌<◌, ◌≤◌, suc, zero, ℕ}
 use native.Mathlib.Omega.{arith}
 use borrow.Author.Tests.{leb-true, lt-ltb}
-use lib.Dec.{leb}
+use lib.Dec.{leb, ltb}
 use lib.ListN.{length, length-take, take}
 use lib.Seq.{take_all}
 use Rattle.values.proofs.ListLaws.{every-at}
@@ -13,6 +13,7 @@ use Rattle.gates.specs.Kind.{rule_of}
 use Rattle.values.specs.Lists.{every}
 use Rattle.netlist.proofs.NetlistLaws.{pins-length}
 use Rattle.netlist.proofs.SoundLaws.{facts, sound-size}
+use Rattle.std.specs.Prelude.{None, Some}
 use Rattle.circuit.specs.Fault.{fault, fault_exists}
 use Rattle.netlist.specs.Netlist.{Net, kind_of, net_of, node_count, pin_count, reading, sound}
 use Rattle.circuit.specs.declared.fault.Fault.{Fault}
@@ -20,7 +21,7 @@ use Rattle.circuit.specs.declared.fault.Site.{Site}
 use Rattle.circuit.specs.declared.fault.Site.TheVariants.{Pin, Whole}
 use Rattle.fault_list.proofs.FaultListLaws.{exists-node}
 use Rattle.fault_list.specs.Faults.{behind_site, fault_after, first_of, first_site, follows_at}
-use Rattle.fault_list.specs.Inner.Walk.{named, next_fault, pin_numbers}
+use Rattle.fault_list.specs.Inner.Walk.{listed, named, next_fault, pin_numbers}
 
 module _ (net : Net) where
   -- of the pins of a node as many are named as there are numbers for, or all
@@ -56,6 +57,18 @@ module _ (net : Net) where
       go : (u : ℕ) → (u ≡ 0 → ⊥) → follows_at (named net) f.node f.site u ≡ behind_site (named net) f.node f.site
       go zero g = absurd (g refl)
       go (suc u) g = refl
+
+  -- the first fault of a node, where the circuit has it
+  listed_first : (n : ℕ) → listed net (first_of net n) ≡ cond (ltb n net.size) (Some (first_of net n)) None
+  unfolding first_of
+  listed_first n = refl
+
+  -- behind a node comes the first fault of the next one, where there is one
+  pub node_behind : (f : Fault) → f.node < net.size → (f.stuck ≡ 0 → ⊥) → f.site ≡ Whole
+      → listed net (next_fault net f) ≡ cond (ltb (f.node + 1) net.size) (Some (first_of net (f.node + 1))) None
+  unfolding behind_site
+  node_behind f h g e =
+      ap (listed net) (next_behind f h g ∙ ap (behind_site (named net) f.node) e ∙ first-named (f.node + 1)) ∙ listed_first (f.node + 1)
 
   -- the fault that follows is that of the list, where all pins of its node can be named
   pub next-after : (f : Fault) → f.node < net.size → length (net.pins f.node) ≤ pin_numbers → next_fault net f ≡ fault_after net f

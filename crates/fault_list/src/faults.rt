@@ -2,14 +2,15 @@
 ghost use Rattle.std.specs.Prelude.{◌≡◌, ◌≤◌, length};
 ghost use Rattle.netlist.specs.Netlist.{net_of};
 ghost use Rattle.fault_list.specs.Faults.{first_of, first_site, site_after};
-ghost use Rattle.fault_list.specs.Inner.Walk.{named, next_fault, pin_numbers};
+ghost use Rattle.fault_list.specs.Inner.Walk.{listed, named, next_fault, pin_numbers};
 
 use circuit::{Fault, Site};
 
 // A site is written as a byte, and 255 is the node itself: that leaves so many numbers for pins.
 const PIN_NUMBERS: u16 = 255;
 
-// The first site of a node with so many pins.
+// The first site of a node with so many pins: any number of them, as the netlist says it. `site_after` is a
+// function of its own: it adds one to a pin's number, so its pins must be few enough for a byte.
 fn first_site(count: u16) -> Site
     ensures { result ≡ first_site count }
 {
@@ -49,33 +50,29 @@ pub fn first_of(netlist: &[u8], node: u16) -> Fault
     }
 }
 
-// The fault that follows. Behind the last comes one of a node that the circuit does not have, and there
-// the list ends: it is followed by itself.
+// The fault that follows, none behind the last.
 #[tactic(auto, unfolding(crate::specs::Inner::Walk::next_fault, crate::specs::Faults::follows_at, crate::specs::Faults::behind_site, netlist::specs::Netlist::net_of))]
-pub fn fault_after(netlist: &[u8], fault: Fault) -> Fault
-    ensures { result ≡ next_fault (net_of netlist.now) fault }
+pub fn fault_after(netlist: &[u8], fault: Fault) -> Option<Fault>
+    ensures { result ≡ listed (net_of netlist.now) (next_fault (net_of netlist.now) fault) }
 {
     let node = fault.node;
-    let site = fault.site;
-    if netlist::node_count(netlist) <= node {
-        return fault;
+    let count = netlist::node_count(netlist);
+    if count <= node {
+        return None;
     }
     if fault.stuck == 0 {
-        return Fault {
-            node,
-            site,
-            stuck: 1,
-        };
+        return Some(Fault { stuck: 1, ..fault });
     }
-    match site {
+    match fault.site {
         Site::Pin(pin) => {
-            let next = site_after(named_pins(netlist, node), pin);
-            Fault {
-                node,
-                site: next,
+            let site = site_after(named_pins(netlist, node), pin);
+            Some(Fault {
+                site,
                 stuck: 0,
-            }
+                ..fault
+            })
         }
-        Site::Whole => first_of(netlist, node + 1),
+        Site::Whole if node + 1 < count => Some(first_of(netlist, node + 1)),
+        Site::Whole => None,
     }
 }

@@ -1,8 +1,8 @@
 -- The finder's outcome by that of the search: a refusal and none are answered as they are, and for a split its certificate is written.
-use Rattle.std.specs.Prelude.{None, Ok, Some}
+use Rattle.std.specs.Prelude.{None, Ok, Some, is_some}
 use Rattle.std.specs.Prelude as code
 use Rattle.sweeps.proofs.PartLaws.{certificate-length}
-use mathlib.Core.Bool.{◌&&◌, false, true}
+use mathlib.Core.Bool.{◌&&◌, false, false≢true, true}
 use mathlib.Core.List.{List, ◌++◌, ◌∷◌}
 use mathlib.Core.Option.{Option, none, some}
 use mathlib.Core.Path.{◌∙◌, ◌≡◌, ap, refl, sym}
@@ -163,10 +163,10 @@ cleared-again : (k z : ℕ) (l : List ℕ) → k ≤ z → replicate k 0 ++ drop
 cleared-again k z l h = again k z (drop z l) h
 
 -- What the writing of the certificate says then: the step count, the certificate, and that the first slice is as the search left it.
-pub written_says : (a : FinderCall) (s : Split) (v : List ℕ) (n : ℕ) → SplitReady a s v n → (r : ℕ) (k x : List ℕ)
+pub written_says : (a : FinderCall) (s : Split) (v : List ℕ) (n : ℕ) → SplitReady a s v n → (r : code.Option ℕ) (k x : List ℕ)
     → certified r k x ≡ certifying a.netlist a.fault a.f s (take (n * (s.c + a.f + 1)) v) a.certificate
-    → (r ≡ step_count (net_of a.netlist) a.fault a.f s)
-    × (r ≤ 2 * (most_nodes * most_frames))
+    → (r ≡ Some (step_count (net_of a.netlist) a.fault a.f s))
+    × (step_count (net_of a.netlist) a.fault a.f s ≤ 2 * (most_nodes * most_frames))
     × (x ≡ written (certificate_for (net_of a.netlist) a.fault a.f s) a.certificate)
     × (k ++ drop (n * (s.c + a.f + 1)) v ≡ v)
 written_says a s v n y r k x e =
@@ -185,12 +185,19 @@ written_says a s v n y r k x e =
       (λ i. clear i ++ drop (n * W) (y.first_cleared i)) ∙ cleared-again (n * W) (largest_window a) a.first y.part ∙ sym y.first_cleared,
     )
 
--- so the outcome is the finder's, where the search has answered a split
-pub mark_made : (a : FinderCall) (s : Split) (v w : List ℕ) (n : ℕ) → SplitReady a s v n → (r : ℕ) (k x : List ℕ)
-    → certified r k x ≡ certifying a.netlist a.fault a.f s (take (n * (s.c + a.f + 1)) v) a.certificate
-    → search_outcome (split_at s) v w ≡ searching (search_call a)
-    → finder_outcome (found s.c (head_length + 7 * r) r) (k ++ drop (n * (s.c + a.f + 1)) v) w x ≡ finding a
-mark_made a s v w n ready r k x e answer =
-    let said = written_says a s v n ready r k x e in
-    let long = ap (λ (m : ℕ). head_length + 7 * m) said.0 ∙ sym (certificate-length (net_of a.netlist) a.fault a.f s) in
-    (λ j. finder_outcome (found s.c (long j) (said.0 j)) (said.3 j) w (said.2 j)) ∙ search_answers a (split_at s) answer refl
+-- Where the search has answered a split, its certificate is written. So there is a step count, which is small, and the outcome is the finder's.
+module _ (a : FinderCall) (s : Split) (v w : List ℕ) (n : ℕ) (size : n ≡ node_count a.netlist)
+    (answer : search_outcome (split_at s) v w ≡ searching (search_call a)) (r : code.Option ℕ) (k x : List ℕ)
+    (e : certified r k x ≡ certifying a.netlist a.fault a.f s (take (n * (s.c + a.f + 1)) v) a.certificate) where
+  pub unwritten : r ≡ None → ⊥
+  unwritten q = false≢true (ap is_some (sym q ∙ (written_says a s v n (split-ready a s v w n size answer) r k x e).0))
+
+  pub mark_made : (m : ℕ) → r ≡ Some m
+      → (m ≤ 2 * (most_nodes * most_frames)) × (finder_outcome (found s.c (head_length + 7 * m) m) (k ++ drop (n * (s.c + a.f + 1)) v) w x ≡ finding a)
+  mark_made m q =
+      let said = written_says a s v n (split-ready a s v w n size answer) r k x e in
+      let count : m ≡ step_count (net_of a.netlist) a.fault a.f s = cc in
+      let long = ap (λ (m : ℕ). head_length + 7 * m) count ∙ sym (certificate-length (net_of a.netlist) a.fault a.f s) in (
+        omega (arith, count, said.1),
+        (λ j. finder_outcome (found s.c (long j) (count j)) (said.3 j) w (said.2 j)) ∙ search_answers a (split_at s) answer refl,
+      )

@@ -10,9 +10,10 @@ use native.Mathlib.Omega.{arith}
 use lib.Dec.{eqb}
 use lib.ListN.{length, length-set, set}
 use lib.Seq.{get_or-set_other, get_or-set_same, lt-length-set}
+use Rattle.std.specs.Prelude.{unwrap_or}
 use Rattle.values.proofs.ListLaws.{Below, bcons, bnil}
 use Rattle.gates.proofs.ValueLaws.{and_zero, or_one}
-use Rattle.gates.specs.Kind.{last_kind, most_pins, controlling, function_of, gate, inverted_if, join_of, rule_of, unit_of}
+use Rattle.gates.specs.Kind.{last_kind, most_pins, controlling, controlling_of, function_of, gate, inverted_if, join_of, rule_of, unit_of}
 use Rattle.values.specs.Lists.{at, indexed}
 use Rattle.gates.specs.Value.{and₂, neg, or₂, stuck_or, xor₂}
 use Rattle.gates.specs.declared.kind.Gate.{Gate}
@@ -401,6 +402,13 @@ controlling-low Wire = omega arith
 controlling-low And = omega arith
 controlling-low Or = omega arith
 controlling-low Xor = omega arith
+
+-- where a gate has a controlling value, it is that one; 0 is taken for the others
+pub controlling_said : (g : Gate) → unwrap_or (controlling_of g) 0 ≡ controlling g
+controlling_said Wire = refl
+controlling_said And = refl
+controlling_said Or = refl
+controlling_said Xor = refl
 
 -- every pin but pin j has the value c
 abbrev pub OtherPins : ℕ → List ℕ → ℕ → Type 0

@@ -1,5 +1,5 @@
 -- 01, "Kind", with the pin limit of 02, request 1: what each kind number decides. Pin limits and gate functions stand here, once.
-use Rattle.std.specs.Prelude.{Bool, ◌||◌, false, true, List, [], ◌∷◌, Result, Ok, Err, map, ℕ, eqb, leb, get_or}
+use Rattle.std.specs.Prelude.{Bool, ◌||◌, false, true, List, [], ◌∷◌, Option, None, Some, Result, Ok, Err, map, ℕ, eqb, leb, get_or}
 use Rattle.gates.specs.Value.{and₂, neg, or₂, xor₂}
 use Rattle.gates.specs.declared.kind.Gate.{Gate}
 use Rattle.gates.specs.declared.kind.Gate.TheVariants.{And, Or, Wire, Xor}
@@ -93,6 +93,13 @@ controlling Wire = 0
 controlling And = 0
 controlling Or = 1
 controlling Xor = 0
+
+-- the same, and none for the others
+abbrev pub controlling_of : Gate → Option ℕ
+controlling_of Wire = None
+controlling_of And = Some 0
+controlling_of Or = Some 1
+controlling_of Xor = None
 
 abbrev pub inverted_if : Bool → ℕ → ℕ
 inverted_if true v = neg v

@@ -1,6 +1,6 @@
 // What a node's kind decides: how many pins a node has, and what it makes of their values.
 ghost use Rattle.std.specs.Prelude.{◌≡◌};
-ghost use Rattle.gates.specs.Kind.{rule_of, kind_named, number_of, unit_of, join_of, controlling, inverted_if, is_given};
+ghost use Rattle.gates.specs.Kind.{rule_of, kind_named, number_of, unit_of, join_of, controlling_of, inverted_if, is_given};
 ghost use Rattle.gates.specs.Value.{differ, neg, and₂, or₂, xor₂};
 
 // The most pins of an AND, NAND, OR or NOR.
@@ -94,6 +94,7 @@ pub fn rule_of(number: u8) -> Rule
         5..=6 => (2, MOST_PINS, Gate::And, number == 6),
         7..=8 => (2, MOST_PINS, Gate::Or, number == 8),
         9..=10 => (2, 2, Gate::Xor, number == 10),
+        // no option for this row: no count fits it, so that what counts pins has nothing else to ask
         _ => (1, 0, Gate::Wire, false),
     };
     Rule {
@@ -131,6 +132,8 @@ pub fn values_differ(v: u8, w: u8) -> bool
     v < UNKNOWN && (w < UNKNOWN && v != w)
 }
 
+// The AND of two values: 0 where either is. It and the OR are two functions, as the definitions have a table
+// for each: a constant for the value that settles it would only hide them.
 fn and_of(v: u8, w: u8) -> u8
     ensures { result ≡ and₂ v w }
 {
@@ -140,6 +143,7 @@ fn and_of(v: u8, w: u8) -> u8
     if v == 1 { w } else { UNKNOWN }
 }
 
+// The OR of two values: 1 where either is.
 fn or_of(v: u8, w: u8) -> u8
     ensures { result ≡ or₂ v w }
 {
@@ -183,15 +187,15 @@ pub fn join_of(gate: Gate, v: u8, w: u8) -> u8
     }
 }
 
-// The pin value that settles an AND or an OR by itself.
-pub fn controlling_value(gate: Gate) -> u8
-    ensures { result ≡ controlling gate }
+// The pin value that settles an AND or an OR by itself. No pin's value settles the others.
+pub fn controlling_value(gate: Gate) -> Option<u8>
+    ensures { result ≡ controlling_of gate }
 {
     match gate {
-        Gate::Wire => 0,
-        Gate::And => 0,
-        Gate::Or => 1,
-        Gate::Xor => 0,
+        Gate::Wire => None,
+        Gate::And => Some(0),
+        Gate::Or => Some(1),
+        Gate::Xor => None,
     }
 }
 

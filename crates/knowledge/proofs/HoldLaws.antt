@@ -72,7 +72,8 @@ module _ (net : Net) where
       get_or-replicate (net.size * W) (t * net.size + n) 2 0 p ∙ sym (get_or-replicate (net.size * W) (t * net.size + n) 2 2 p)
 
   -- frame t more is held: the faulted node's value is stored in it
-  pub holds_frame : (f : StuckLines) (W t i : ℕ) (l bytes : List ℕ) → i < net.size → t < W → length bytes ≡ net.size * W → f.node i ≡ stuck_or (f.node i) (get_or l (t * net.size + i) 2)
+  pub holds_frame : (f : StuckLines) (W t i : ℕ) (l bytes : List ℕ) → i < net.size → t < W → length bytes ≡ net.size * W
+      → f.node i ≡ stuck_or (f.node i) (get_or l (t * net.size + i) 2)
       → ((m : ℕ) → (m ≡ i → ⊥) → 2 ≤ f.node m)
       → Holds net (present_below t f) W l bytes
       → Holds net (present_below (suc t) f) W l (set bytes (t * net.size + i) (f.node i))
@@ -100,7 +101,8 @@ module _ (net : Net) where
 
       go : Dec (u ≡ t) → Dec (n ≡ i) → at (set bytes (t * net.size + i) (f.node i)) (u * net.size + n) ≡ stuck_or ((present_below (suc t) f u).node n) value
       go (yes z) (yes w) =
-          subst (λ (k : ℕ). at (set bytes (t * net.size + i) (f.node i)) k ≡ f.node i) (λ j. sym z j * net.size + sym w j) (get_or-set_same bytes (t * net.size + i) (f.node i) 0 (omega (arith, len, place-within N W i t hi ht)))
+          subst (λ (k : ℕ). at (set bytes (t * net.size + i) (f.node i)) k ≡ f.node i) (λ j. sym z j * net.size + sym w j)
+          (get_or-set_same bytes (t * net.size + i) (f.node i) 0 (omega (arith, len, place-within N W i t hi ht)))
           ∙ e
           ∙ (λ j. stuck_or ((sym (now_present z) j).node (sym w j)) (get_or l (sym z j * net.size + sym w j) 2))
       go (yes z) (no w) =
@@ -111,7 +113,8 @@ module _ (net : Net) where
       go (no z) d = apart (λ q. z (place-frame N i t n u hi hn q)) ∙ (λ j. stuck_or ((unchanged z (dec_lt u t) j).node n) value)
 
   -- a value is stored at a place where nothing else is held
-  pub holds-set : (S : ℕ → StuckLines) (W n t v : ℕ) (l bytes : List ℕ) → n < net.size → t < W → length bytes ≡ net.size * W → length l ≡ net.size * W → v ≡ stuck_or (held net S n t) v
+  pub holds-set : (S : ℕ → StuckLines) (W n t v : ℕ) (l bytes : List ℕ) → n < net.size → t < W
+      → length bytes ≡ net.size * W → length l ≡ net.size * W → v ≡ stuck_or (held net S n t) v
       → Holds net S W l bytes
       → Holds net S W (set l (t * net.size + n) v) (set bytes (t * net.size + n) v)
   unfolding Holds known
@@ -126,7 +129,8 @@ module _ (net : Net) where
       inside : t * net.size + n < net.size * W
       inside = place-within N W n t hn ht
 
-      apart : (u * net.size + m ≡ t * net.size + n → ⊥) → at (set bytes (t * net.size + n) v) (u * net.size + m) ≡ stuck_or (held net S m u) (get_or (set l (t * net.size + n) v) (u * net.size + m) 2)
+      apart : (u * net.size + m ≡ t * net.size + n → ⊥)
+          → at (set bytes (t * net.size + n) v) (u * net.size + m) ≡ stuck_or (held net S m u) (get_or (set l (t * net.size + n) v) (u * net.size + m) 2)
       apart d =
           get_or-set_other bytes (t * net.size + n) (u * net.size + m) v 0 d
           ∙ p m u hm hu
@@ -213,7 +217,8 @@ module _ (net : Net) where
     unfolding known
     begin_known hv hn ht e =
         ap (λ (x : Branch). known net S x.values n t) (begin_open e)
-        ∙ ap (stuck_or (held net S n t)) (get_or-set_same (replicate (net.size * W) 2) (t * net.size + n) v 2 (omega (arith, length-replicate {A = ℕ} (net.size * W) 2, place-within net.size W n t hn ht)))
+        ∙ ap (stuck_or (held net S n t))
+        (get_or-set_same (replicate (net.size * W) 2) (t * net.size + n) v 2 (omega (arith, length-replicate {A = ℕ} (net.size * W) 2, place-within net.size W n t hn ht)))
         ∙ sym (split_known hv e)
 
   -- a branch after a step
@@ -252,7 +257,8 @@ module _ (net : Net) where
         let g : t < W = omega arith in
         let N : ℕ = net.size in
         let l : List ℕ = replicate (N * W) 2 in
-        let e : (lines_of f).node f.node ≡ stuck_or ((lines_of f).node f.node) (get_or l (t * N + f.node) 2) = held-value f hu ∙ ap (stuck_or ((lines_of f).node f.node)) (sym (get_or-replicate (N * W) (t * N + f.node) 2 2 (place-within N W f.node t hf g))) in
+        let e : (lines_of f).node f.node ≡ stuck_or ((lines_of f).node f.node) (get_or l (t * N + f.node) 2) =
+        held-value f hu ∙ ap (stuck_or ((lines_of f).node f.node)) (sym (get_or-replicate (N * W) (t * N + f.node) 2 2 (place-within N W f.node t hf g))) in
         holds_frame (lines_of f) W t f.node l (hold_frames N f t l) hf g (held-length N f t l ∙ length-replicate (N * W) 2) e (none-held f) (holds_frames t (omega arith))
 
     -- `begin_in` is `begin`: the branch closes at the same splits, and the bytes hold what is known in it
@@ -264,8 +270,11 @@ module _ (net : Net) where
           begin-cases net S (λ (x : Branch). both x (by-test (differ (at bytes place) v))) W n t v
           (λ e. subst (λ (x : Bool). both (record { values = l; steps = []; closed = true }) (by-test x)) (sym (test ∙ e)) (refl, holds_frames c hc))
           (λ e.
-          subst (λ (x : Bool). both (record { values = set l place v; steps = []; closed = false }) (by-test x)) (sym (test ∙ e))
-          (refl, holds-set S W n t v l bytes hn ht (held-length net.size f c l ∙ length-replicate (net.size * W) 2) (length-replicate (net.size * W) 2) (split_known S W n t v hv e) (holds_frames c hc)))
+          subst (λ (x : Bool). both (record { values = set l place v; steps = []; closed = false }) (by-test x)) (sym (test ∙ e)) (
+            refl,
+            holds-set S W n t v l bytes hn ht (held-length net.size f c l ∙ length-replicate (net.size * W) 2) (length-replicate (net.size * W) 2)
+                (split_known S W n t v hv e) (holds_frames c hc),
+          ))
         where
           S : ℕ → StuckLines
           S = present_below c (lines_of f)

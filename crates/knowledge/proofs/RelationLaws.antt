@@ -14,7 +14,9 @@ use lib.ListN.{get_or, length, set}
 use borrow.Author.Tests.{eq-eqb, eqb-false, eqb-true, ne_eqb}
 use Rattle.knowledge.specs.Window.{conclusion, has_relation, in_force, known, output_conclusion, pin_conclusion, pin_frame, present_below, held}
 use Rattle.certificate.specs.declared.step.Step.{Step}
-use Rattle.gates.proofs.GateLaws.{Controls, EveryPin, OtherPins, SomePin, controls_binary, controls_controlling, neg-binary, controlled, controlled-by, uncontrolled, uncontrolled-by, unsettled, Parity, parity_open, parity_value, set-controlled, set-uncontrolled, set-uncontrolled-by, xnor_parity, xor_parity, Wired, buffer_wired, flip_flop_wired, not_wired, output_wired, wired-value}
+use Rattle.gates.proofs.GateLaws.{Controls, EveryPin, OtherPins, SomePin, controls_binary, controls_controlling, neg-binary, controlled, controlled-by}
+use Rattle.gates.proofs.GateLaws.{uncontrolled, uncontrolled-by, unsettled, Parity, parity_open, parity_value, set-controlled, set-uncontrolled}
+use Rattle.gates.proofs.GateLaws.{set-uncontrolled-by, xnor_parity, xor_parity, Wired, buffer_wired, flip_flop_wired, not_wired, output_wired, wired-value}
 use Rattle.values.proofs.ListLaws.{list_of_one, list_of_two}
 use Rattle.simulator.proofs.PinLaws.{pin-count, pin-reads}
 use Rattle.gates.proofs.ValueLaws.{differ-opposite, differ_same, differ_unknown, known-low, neg-neg, opposite-differ, stuck-free, stuck-known, unknown_high}
@@ -415,7 +417,8 @@ module _ (net : Net) (c : ℕ) (f : StuckLines) (t : ℕ) where
       P s = (at (pin_values net s v n) j ≡ f.pin n j) × ((o : ℕ) → pin_conclusion net s v n o j ≡ 2)
 
   -- from c on no node is held, and each pin reads its source
-  pub node_from_c : c ≤ t → (l : List ℕ) (n : ℕ) → (known net (present_below c f) l n t ≡ get_or l (t * net.size + n) 2) × (in_force net (present_below c f) n t ≡ has_relation (net.kind n) t)
+  pub node_from_c : c ≤ t → (l : List ℕ) (n : ℕ)
+      → (known net (present_below c f) l n t ≡ get_or l (t * net.size + n) 2) × (in_force net (present_below c f) n t ≡ has_relation (net.kind n) t)
   unfolding in_force held
   node_from_c h l n = (concluded-known net (present_below c f) l n t high, ap (λ (s : StuckLines). is_unknown (s.node n) && has_relation (net.kind n) t) e)
     where

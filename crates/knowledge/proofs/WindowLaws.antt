@@ -1,19 +1,21 @@
 -- Laws of a window as the code walks it: the fault's frames, places in a work slice, a pin's conclusion test by test, and what a step or
 -- a split does to a branch, by cases.
-use mathlib.Core.Bool.{Bool, false, not, true}
+use mathlib.Core.Bool.{Bool, false, not, not-not, true}
 use mathlib.Core.List.{List, [], ◌++◌, ◌∷◌}
-use mathlib.Core.Path.{◌∙◌, ◌≡◌, ap, refl}
+use mathlib.Core.Path.{◌∙◌, ◌≡◌, ap, refl, sym}
 use Prim.Native.Nat.{◌*◌, ◌+◌, ◌-◌, suc, zero, ℕ}
 use native.Mathlib.Nat.{add-zero}
 use native.Mathlib.Omega.{arith}
 use lib.ListN.{drop, replicate, set}
 use lib.Seq.{get_or-drop}
-use Rattle.knowledge.specs.Window.{Branch, begin, conclusion, enter, has_relation, known, line_frame, line_node, output_conclusion, pin_conclusion, pin_frame}
+use Rattle.knowledge.specs.Window.{Branch, begin, conclusion, enter, known, output_conclusion, pin_conclusion, pin_frame}
 use Rattle.knowledge.specs.Inner.Slice.{known_in}
 use Rattle.certificate.specs.declared.step.Step.{Step}
 use Rattle.simulator.specs.Clock.{pin_values}
-use Rattle.circuit.specs.Fault.{StuckLines}
-use Rattle.gates.specs.Kind.{gate, is_flip_flop, is_input}
+use Rattle.circuit.proofs.FaultLaws.{held_some}
+use Rattle.circuit.specs.Fault.{StuckLines, held}
+use Rattle.std.specs.Prelude.{is_some}
+use Rattle.gates.specs.Kind.{gate, is_flip_flop}
 use Rattle.values.specs.Lists.{at}
 use Rattle.netlist.specs.Netlist.{Net}
 use Rattle.gates.specs.Value.{differ, is_unknown}
@@ -56,16 +58,9 @@ module _ (net : Net) (S : ℕ → StuckLines) (l : List ℕ) (n t p N place : �
         during = t;
       }
 
--- the lines of a relation
-pub conclusion-node : (net : Net) (S : ℕ → StuckLines) (kn : ℕ → ℕ → ℕ) (n t a : ℕ) → (conclusion net S kn n t a).node ≡ line_node net n a
-unfolding conclusion
-conclusion-node net S kn n t zero = refl
-conclusion-node net S kn n t (suc k) = refl
-
-pub conclusion-frame : (net : Net) (S : ℕ → StuckLines) (kn : ℕ → ℕ → ℕ) (n t a : ℕ) → (conclusion net S kn n t a).frame ≡ line_frame net n t a
-unfolding conclusion
-conclusion-frame net S kn n t zero = refl
-conclusion-frame net S kn n t (suc k) = refl
+-- a line that is not held has an unknown value
+pub none_held : (s : ℕ) (r : Bool) → is_some (held s) ≡ not r → r ≡ is_unknown s
+none_held s r e = sym (not-not r) ∙ ap not (sym e ∙ held_some s) ∙ not-not (is_unknown s)
 
 -- what holds of a branch that a step was entered into, by whether its place was unknown; and of one that begins, by whether the split
 -- contradicts a held value
@@ -102,14 +97,6 @@ module _ (net : Net) (S : ℕ → StuckLines) (P : Branch → Type 0) where
       go true q = contrary q
       go false q = fitting q
 
--- a relation's pins: a flip-flop's stand one frame earlier
-pub frame-before : (k t : ℕ) → is_flip_flop k ≡ true → t - 1 ≡ pin_frame k t
-frame-before k zero e = rw e
-frame-before k (suc t) e = rw e (omega arith)
-
+-- a relation's pins stand in its own frame, but for a flip-flop's
 pub frame_same : (k t : ℕ) → is_flip_flop k ≡ false → t ≡ pin_frame k t
 frame_same k t e = rw e
-
-pub relation-later : (k t : ℕ) → (t ≡ 0 → ⊥) → not (is_input k) ≡ has_relation k t
-relation-later k zero h = absurd (h refl)
-relation-later k (suc t) h = refl

@@ -1,8 +1,8 @@
 // The relation of a node at a frame, and what it concludes of its lines.
-ghost use Rattle.std.specs.Prelude.{◌≡◌, not, set};
-ghost use Rattle.circuit.specs.Fault.{lines_in, lines_of, stuck_value};
+ghost use Rattle.std.specs.Prelude.{◌≡◌, set, unwrap_or};
+ghost use Rattle.circuit.specs.Fault.{lines_in, lines_of};
 ghost use Rattle.gates.specs.Kind.{gate};
-ghost use Rattle.gates.specs.Value.{differ, is_unknown};
+ghost use Rattle.gates.specs.Value.{differ};
 ghost use Rattle.simulator.specs.Clock.{pin_values};
 ghost use Rattle.values.specs.Lists.{at};
 ghost use Rattle.netlist.specs.Netlist.{kind_of, net_of};
@@ -11,12 +11,12 @@ ghost use Rattle.knowledge.specs.Inner.Slice.{known_in};
 
 use crate::window::place_of;
 use certificate::Step;
-use circuit::{Circuit, Fault};
+use circuit::{Circuit, Fault, held};
 use gates::{Kind, UNKNOWN};
 
 // The fault is present in frames below c, and absent from c on.
 #[tactic(auto, using(crate::proofs::RelationLaws::present_below_lem, crate::proofs::RelationLaws::absent_from), unfolding(circuit::specs::Fault::lines_in))]
-fn circuit_in(fault: Fault, c: u8, frame: u8) -> Circuit
+pub fn circuit_in(fault: Fault, c: u8, frame: u8) -> Circuit
     ensures { lines_in result ≡ present_below c (lines_of fault) frame }
 {
     if frame < c {
@@ -30,8 +30,8 @@ fn circuit_in(fault: Fault, c: u8, frame: u8) -> Circuit
 pub fn pin_frame(netlist: &[u8], node: u16, frame: u8) -> u8
     ensures { result ≡ pin_frame (kind_of netlist.now node) frame }
 {
-    if netlist::is_of_kind(netlist, node, Kind::FlipFlop) && 0 < frame {
-        frame - 1
+    if netlist::is_of_kind(netlist, node, Kind::FlipFlop) {
+        frame.saturating_sub(1)
     } else {
         frame
     }
@@ -47,20 +47,14 @@ fn has_relation(netlist: &[u8], node: u16, frame: u8) -> bool
     !netlist::is_of_kind(netlist, node, Kind::Input)
 }
 
-// Whether a line is stuck at 0 or 1.
-fn is_held(stuck: Option<u8>) -> bool
-    ensures { result ≡ not (is_unknown (stuck_value stuck)) }
-{
-    stuck.is_some_and(|value| value < UNKNOWN)
-}
-
-// Whether a node has a relation at a frame through which something may be concluded.
-#[tactic(auto, using(gates::proofs::ValueLaws::unknown_high), unfolding(crate::specs::Window::in_force, crate::specs::Window::held, netlist::specs::Netlist::net_of))]
+// Whether a node has a relation at a frame through which something may be concluded. Netlist, fault and c go
+// side by side as for `conclude`.
+#[tactic(auto, using(crate::proofs::WindowLaws::none_held), unfolding(crate::specs::Window::in_force, crate::specs::Window::held, netlist::specs::Netlist::net_of))]
 pub fn in_force(netlist: &[u8], fault: Fault, c: u8, node: u16, frame: u8) -> bool
     ensures { result ≡ in_force (net_of netlist.now) (present_below c (lines_of fault)) node frame }
 {
     let circuit = circuit_in(fault, c, frame);
-    !is_held(circuit.stuck_node(node)) && has_relation(netlist, node, frame)
+    held(circuit.stuck_node(node)).is_none() && has_relation(netlist, node, frame)
 }
 
 // A node whose output is known, and the values that its pins read from.
@@ -91,27 +85,29 @@ impl KnownOutput<'_> {
 
     // What is concluded of a pin's source: the value whose opposite would make the output another.
     // Through a stuck pin nothing is concluded.
-    #[tactic(auto, unfolding(netlist::specs::Netlist::net_of, crate::specs::Window::pin_conclusion))]
-    fn conclusion(&self, pin: u16) -> u8
-        ensures { let o = self.now in result ≡ pin_conclusion (net_of o.netlist.now) (lines_in o.circuit) (at o.values.now) o.node o.output pin }
+    #[tactic(auto, using(circuit::proofs::FaultLaws::held_some, gates::proofs::GateLaws::controlling_said), unfolding(netlist::specs::Netlist::net_of, crate::specs::Window::pin_conclusion))]
+    fn conclusion(&self, pin: u16) -> Option<u8>
+        ensures { let o = self.now in unwrap_or result 2 ≡ pin_conclusion (net_of o.netlist.now) (lines_in o.circuit) (at o.values.now) o.node o.output pin }
     {
-        if is_held(self.circuit.stuck_pin(self.node, pin)) {
-            return UNKNOWN;
+        if held(self.circuit.stuck_pin(self.node, pin)).is_some() {
+            return None;
         }
         let gate = netlist::rule_of(self.netlist, self.node).gate;
-        let first = gates::controlling_value(gate);
+        // where no value settles the gate, either may be tried first: the definition begins with 0
+        let first = gates::controlling_value(gate).unwrap_or(0);
         let second = gates::negation(first);
         if self.tells_against(pin, first) {
-            return second;
+            return Some(second);
         }
         if self.tells_against(pin, second) {
-            return first;
+            return Some(first);
         }
-        UNKNOWN
+        None
     }
 }
 
-// The source of a pin, 0 where the node has no such pin.
+// The source of a pin, 0 where the node has no such pin: no option, since the definition and all callers go on
+// with 0 there.
 #[tactic(auto, using(crate::proofs::PinRules::pin_laws))]
 pub fn pin_source(netlist: &[u8], node: u16, pin: u16) -> u16
     ensures { result ≡ at ((net_of netlist.now).pins node) pin }
@@ -127,7 +123,8 @@ pub fn pin_source(netlist: &[u8], node: u16, pin: u16) -> u16
 // the definition's conclusion is a step then too, so an option of one would say less. What is known lies
 // in bytes, frame by frame, one for each node; a place past the end counts as known to be 0, which
 // no caller may lean on: it says nothing of the circuit, and a window has a byte for each place.
-#[tactic(auto, using(crate::proofs::WindowLaws::conclude_output, crate::proofs::WindowLaws::conclude_pin), unfolding(netlist::specs::Netlist::net_of))]
+// Netlist, fault and c go side by side: a struct of the three passes through memory, and took reports 2 to 3
+// in a hundred instructions more.
 pub fn conclude(
     netlist: &[u8],
     fault: Fault,
@@ -162,7 +159,7 @@ pub fn conclude(
     Step {
         node: pin_source(netlist, node, line - 1),
         frame: pins_at,
-        value: pins.conclusion(line - 1),
+        value: pins.conclusion(line - 1).unwrap_or(UNKNOWN),
         via: node,
         during: frame,
     }

@@ -16,7 +16,8 @@ use Rattle.netlist.proofs.RefusalLaws.{FirstFails, NoneSmaller, Passed, refusal_
 use Rattle.netlist.specs.Answer.{answered, refusal, refused}
 use Rattle.gates.specs.Kind.{is_flip_flop, is_output, last_kind, rule_of}
 use Rattle.values.specs.Lists.{every}
-use Rattle.netlist.specs.Netlist.{count_fits, kind_known, kind_of, length_of, most_nodes, most_pins_in_all, net_of, node_count, offset_of, pair_joined, pair_start, pin_count, reader_tests, reading, sizes_allowed, sound, source_allowed, source_of, sources_allowed}
+use Rattle.netlist.specs.Netlist.{kind_of, length_of, most_nodes, most_pins_in_all, net_of, node_count, offset_of, pair_start, pin_count, source_of}
+use Rattle.netlist.specs.Netlist.{count_fits, kind_known, pair_joined, reader_tests, reading, sizes_allowed, sound, source_allowed, sources_allowed}
 
 -- A sound netlist, in 01's words: N and P are within their limits, and the bytes are as many as they say. Kinds are known,
 -- pairs are joined, pin counts fit the kinds, and each pin's source is a node, no output, and smaller unless the pin is a flip-flop's.
@@ -195,7 +196,10 @@ module _ (bs : List ℕ) (f : Facts bs (node_count bs) (pin_count bs)) where
   source_passes : (i k : ℕ) → i < node_count bs → k < length_of bs i → source_allowed bs i k ≡ true
   unfolding source_allowed
   source_passes i k h l =
-      rw (ne_eqb (kind_of bs (source_of bs i k)) 1 (f.source_no_output i k h l), lt-ltb (source_of bs i k) (cond (is_flip_flop (kind_of bs i)) (node_count bs) i) (go (is_flip_flop (kind_of bs i)) refl))
+      rw (
+        ne_eqb (kind_of bs (source_of bs i k)) 1 (f.source_no_output i k h l),
+        lt-ltb (source_of bs i k) (cond (is_flip_flop (kind_of bs i)) (node_count bs) i) (go (is_flip_flop (kind_of bs i)) refl),
+      )
     where
       go : (b : Bool) → is_flip_flop (kind_of bs i) ≡ b → source_of bs i k < cond b (node_count bs) i
       go true e = f.source_node i k h l

@@ -2,7 +2,8 @@
 ghost use Rattle.std.specs.Prelude.{◌≡◌, ◌&&◌, cond, eqb, ◌*◌, ◌+◌, ◌<◌};
 ghost use Rattle.gates.specs.Kind.{is_flip_flop, is_given, kind_named, number_of, rule_of};
 ghost use Rattle.values.specs.Lists.{every, u16_at};
-ghost use Rattle.netlist.specs.Netlist.{node_count, pin_count, kind_of, offset_of, length_of, source_of, pair_start, sizes_allowed, kind_known, pair_joined, count_fits, source_allowed, sources_allowed, reading, reading_says};
+ghost use Rattle.netlist.specs.Netlist.{node_count, pin_count, kind_of, offset_of, length_of, source_of, pair_start, reading, reading_says};
+ghost use Rattle.netlist.specs.Netlist.{sizes_allowed, kind_known, pair_joined, count_fits, source_allowed, sources_allowed};
 
 use crate::refusal::Refusal;
 use gates::{Kind, Rule, UnknownKind};
@@ -28,7 +29,7 @@ pub fn node_count(netlist: &[u8]) -> u16
 }
 
 // P: how many pins the netlist says that it has.
-pub fn pin_count(netlist: &[u8]) -> u16
+fn pin_count(netlist: &[u8]) -> u16
     ensures { result ≡ pin_count netlist.now }
 {
     u16_at(netlist, 2)
@@ -67,10 +68,7 @@ pub fn is_of_kind(netlist: &[u8], node: u16, kind: Kind) -> bool
 pub fn is_given(netlist: &[u8], node: u16) -> bool
     ensures { result ≡ is_given (kind_of netlist.now node) }
 {
-    match kind_of(netlist, node) {
-        Ok(kind) => kind.is_given(),
-        Err(_) => false,
-    }
+    kind_of(netlist, node).is_ok_and(Kind::is_given)
 }
 
 // The offset of a node's pair, counted in pins.
@@ -114,7 +112,7 @@ pub fn source_of(netlist: &[u8], node: u16, pin: u16) -> u16
 fn sizes_allowed(n: u16, p: u16) -> bool
     ensures { result ≡ sizes_allowed n p }
 {
-    0 < n && (n <= MOST_NODES && p <= MOST_PINS_IN_ALL)
+    0 < n && n <= MOST_NODES && p <= MOST_PINS_IN_ALL
 }
 
 // Whether each of the first n nodes has a kind that there is.
@@ -124,7 +122,8 @@ fn kinds_known(netlist: &[u8], n: u16) -> bool
     (0..n).all(|node| kind_of(netlist, node).is_ok())
 }
 
-// Each pair starts where the one before it ends, the first at 0, and the last ends at p.
+// Each pair starts where the one before it ends, the first at 0, and the last ends at p. A loop and no fold: it
+// stops at the first pair that does not join.
 fn pairs_joined(netlist: &[u8], n: u16, p: u16) -> bool
     ensures { result ≡ (every (pair_joined netlist.now) n && eqb (pair_start netlist.now n) p) }
 {
@@ -156,12 +155,12 @@ fn counts_fit(netlist: &[u8], n: u16) -> bool
     (0..n).all(|node| count_fits(netlist, node))
 }
 
-// A flip-flop's pin names any node, another node's pin a smaller number.
-fn source_limit(netlist: &[u8], n: u16, node: u16) -> u16
-    ensures { result ≡ cond (is_flip_flop (kind_of netlist.now node)) n node }
+// What a node's pins name stands below this: a flip-flop's pin names any node, another node's a smaller number.
+fn source_limit(netlist: &[u8], node: u16) -> u16
+    ensures { result ≡ cond (is_flip_flop (kind_of netlist.now node)) (node_count netlist.now) node }
 {
     if is_of_kind(netlist, node, Kind::FlipFlop) {
-        n
+        node_count(netlist)
     } else {
         node
     }
@@ -178,20 +177,18 @@ fn source_allowed(netlist: &[u8], limit: u16, node: u16, pin: u16) -> bool
 }
 
 // Whether each of a node's pins names a source that it may name.
-fn sources_allowed(netlist: &[u8], n: u16, node: u16) -> bool
-    requires { n ≡ node_count netlist.now }
+fn sources_allowed(netlist: &[u8], node: u16) -> bool
     ensures { result ≡ sources_allowed netlist.now node }
 {
-    let limit = source_limit(netlist, n, node);
+    let limit = source_limit(netlist, node);
     (0..length_of(netlist, node)).all(|pin| source_allowed(netlist, limit, node, pin))
 }
 
 // Whether each pin of the first n nodes names a source that it may name.
 fn all_sources_allowed(netlist: &[u8], n: u16) -> bool
-    requires { n ≡ node_count netlist.now }
     ensures { result ≡ every (sources_allowed netlist.now) n }
 {
-    (0..n).all(|node| sources_allowed(netlist, n, node))
+    (0..n).all(|node| sources_allowed(netlist, node))
 }
 
 // Whether the netlist is sound. Each refusal is looked for in the whole netlist before the next.

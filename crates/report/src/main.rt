@@ -6,7 +6,7 @@ ghost use Rattle.std.specs.Io.{ReadsAtMost};
 ghost use Rattle.std.specs.Io.KnownBytes.{Consumes, IsAtEnd, ReadConsumes};
 ghost use Rattle.report_text.specs.Turns.{ProgramBuffers, slices};
 
-use report_text::LINE_LENGTH;
+use report_text::{LINE_LENGTH, Progress};
 use std::io;
 use std::io::{ErrorKind, Read, Write};
 
@@ -33,6 +33,7 @@ fn read_input<R: Read>(input: &mut R, buffer: &mut [u8]) -> io::Result<usize>
     ensures end { IfOk result (λ n. n < length buffer.new → IsAtEnd (R.remaining input.new)) }
 {
     let mut done = 0;
+    // A read goes on by as many bytes as came, so that no count of reads is known before.
     while done < buffer.len() {
         let count = read_some(input, &mut buffer[done..])?;
         if count == 0 {
@@ -44,7 +45,8 @@ fn read_input<R: Read>(input: &mut R, buffer: &mut [u8]) -> io::Result<usize>
 }
 
 // Prints each line as it is made, and stops at the first that the output does not take whole: no
-// line, and so no total, follows one that is missing.
+// line, and so no total, follows one that is missing. The report's buffers go side by side, as `next_line`
+// takes them.
 fn print_report<W: Write>(
     output: &mut W,
     input: &[u8],
@@ -55,9 +57,10 @@ fn print_report<W: Write>(
 ) -> io::Result<()>
     requires { ProgramBuffers (slices known.old touched.old certificate.old line.old) }
 {
-    let mut progress = report_text::begin(input);
-    while !report_text::is_over(progress) {
-        progress = report_text::next_line(input, progress, known, touched, certificate, line);
+    let mut progress = Progress::begin(input);
+    // How many lines there are is known only when the report is over: nothing is counted here.
+    while !progress.is_over() {
+        progress = progress.next_line(input, known, touched, certificate, line);
         let end = progress.length;
         output.write_all(&line[..end])?;
     }
@@ -65,7 +68,8 @@ fn print_report<W: Write>(
 }
 
 // A sound netlist has at most 53,252 bytes, so input that is cut off at the buffer's end is refused
-// as it would be whole. Where a read or a write fails, the error ends the program.
+// as it would be whole. Where a read or a write fails, the error ends the program. The buffers are arrays of
+// 65,536 bytes, as document 01 names them.
 fn main(rt: HostRuntime) -> io::Result<()> {
     let mut input = [0u8; 65536];
     let mut known = [0u8; 65536];

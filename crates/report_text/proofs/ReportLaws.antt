@@ -1,5 +1,6 @@
 -- The turns of a report, one after the other, write the report, and then it is over.
-use Rattle.std.proofs.Common.{◌≡◌, ℕ, zero, suc, ◌+◌, ◌*◌, ◌<◌, ◌≤◌, Bool, true, false, cond, ltb, List, [], ◌∷◌, ◌++◌, length, take, sym, refl, ap, ◌∙◌, subst, true≢false, append_assoc, append-nil, add-zero, mod-eq_of_lt, mul-le-mul, zero-add, arith, drop_of_length-le, le-leb}
+use Rattle.std.proofs.Common.{◌≡◌, ℕ, zero, suc, ◌+◌, ◌*◌, ◌<◌, ◌≤◌, Bool, true, false, cond, ltb, List, [], ◌∷◌, ◌++◌, length, take, sym, refl, ap, ◌∙◌, subst}
+use Rattle.std.proofs.Common.{true≢false, append_assoc, append-nil, add-zero, mod-eq_of_lt, mul-le-mul, zero-add, arith, drop_of_length-le, le-leb}
 use mathlib.Core.Option.{Option, none, some}
 use native.Mathlib.Decide.{dec_le, dec_lt}
 use native.Mathlib.Nat.{mod-add-div, sub-zero}
@@ -307,7 +308,9 @@ module _ (input : List ℕ) where
       certificate l e narrow (yes p) =
           let size = sound-size nb (node_count nb) (pin_count nb) e in
           let p' : head_length + 14 * (net.size * frames_given input) ≤ 65536 = subst (λ (n : ℕ). head_length + 14 * (n * frames_given input) ≤ 65536) size p in
-          let r = report-windowed input l e none (refusal_by window_tests input (le-leb (frames_given input) most_frames narrow, (le-leb (head_length + 14 * (net.size * frames_given input)) 65536 p', tt))) in
+          let r = report-windowed input l e none
+          (refusal_by window_tests input
+          (le-leb (frames_given input) most_frames narrow, (le-leb (head_length + 14 * (net.size * frames_given input)) 65536 p', tt))) in
           record {
             turns = suc (length (faults net));
             written = λ S room. (listed e narrow p S room).0 ∙ sym r;

@@ -1,5 +1,5 @@
 -- What holds of one turn: it makes what the finder's answer says, and fewer turns are left after it.
-use Rattle.std.proofs.Common.{◌≡◌, ℕ, ◌+◌, ◌<◌, true, false, List, length, sym, ap, ◌∙◌, true≢false, arith}
+use Rattle.std.proofs.Common.{◌≡◌, ℕ, ◌+◌, ◌<◌, true, List, length, sym, ap, ◌∙◌, arith}
 use Rattle.netlist.specs.Answer.{answered}
 use Rattle.circuit.specs.Fault.{fault_exists}
 use Rattle.netlist.specs.Netlist.{net_of, node_count, pin_count, reading, sound}
@@ -13,7 +13,7 @@ use Rattle.std.specs.Prelude.{Option, Result}
 use Rattle.fault_list.specs.Faults.{fault_after, rest_after}
 use Rattle.report_text.proofs.StageLaws.{list_left, rest-left}
 use Rattle.report_text.specs.Report.{given_b, given_f, netlist_in}
-use Rattle.report_text.specs.Turns.{fault_turn, is_over, made_for, stage_at, line_written, turn, turns_left}
+use Rattle.report_text.specs.Turns.{fault_turn, made_for, stage_at, line_written, turn, turns_left}
 use Rattle.report_text.specs.declared.progress.Progress.{Progress}
 use Rattle.report_text.specs.declared.progress.Stage.{Stage}
 use Rattle.report_text.specs.declared.progress.Stage.TheVariants.{Counted, Looking, Over}
@@ -23,7 +23,8 @@ pub record Said (input : List ℕ) (f : Fault) (v w x v' w' x' : List ℕ) (s : 
   pub outcome : finder_outcome (finding_says s) v' w' x' ≡ finding (finder_call (netlist_in input) f (given_b input) (given_f input) v w x)
 
 -- by the finder's contract
-pub said : (input : List ℕ) (f : Fault) (v w x : List ℕ) {v' w' x' nb : List ℕ} {b F : ℕ} {r : Result (Option Mark) Refusal} (s : Result (Option Mark) Refusal) → nb ≡ netlist_in input → b ≡ given_b input → F ≡ given_f input
+pub said : (input : List ℕ) (f : Fault) (v w x : List ℕ) {v' w' x' nb : List ℕ} {b F : ℕ} {r : Result (Option Mark) Refusal} (s : Result (Option Mark) Refusal)
+    → nb ≡ netlist_in input → b ≡ given_b input → F ≡ given_f input
     → r ≡ s → finder_outcome (finding_says r) v' w' x' ≡ finding (finder_call nb f b F v w x) → Said input f v w x v' w' x' s
 said input f v w x {v'} {w'} {x'} s nb-is b-is F-is q e =
     record {
@@ -62,9 +63,3 @@ pub turns_fall : (input : List ℕ) (f : Fault) → fault_exists (net_of (netlis
     → turns_left input (stage_at (net_of (netlist_in input)) (fault_after (net_of (netlist_in input)) f)) < length (rest_after (net_of (netlist_in input)) f) + 2
 turns_fall input f e =
     let net = net_of (netlist_in input) in rw (rest-left net f e) (left-few input (stage_at net (fault_after net f)))
-
--- where the report is not over, a turn is left
-pub turn-left : (input : List ℕ) (s : Stage) → is_over s ≡ false → 0 < turns_left input s
-turn-left input (Looking f) e = omega arith
-turn-left input Counted e = omega arith
-turn-left input Over e = absurd (true≢false e)

@@ -5,4 +5,4 @@
 mod lines;
 mod progress;
 
-pub use progress::{LINE_LENGTH, Progress, Stage, begin, is_over, next_line};
+pub use progress::{LINE_LENGTH, Progress, Stage};

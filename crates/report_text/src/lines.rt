@@ -1,20 +1,20 @@
-// The text of a line, written into a slice. What has no room there is left out.
+// The text of a line, written into a slice. What has no room there is left out, so `write!` is not used: of a
+// slice that is too short it promises nothing.
 ghost use Rattle.std.specs.Prelude.{◌≡◌, ◌≤◌, length};
 ghost use Rattle.std.proofs.lemmas.List.Edits.{sets};
 ghost use Rattle.splits.specs.Split.{split};
-ghost use Rattle.certificate.specs.Certificate.{split_frame, split_node};
 ghost use Rattle.report_text.specs.Lines.{line_length, mark_line, refused_line, total_line};
 
+use certificate::Head;
 use circuit::Fault;
 use fault_list::{put_field, put_text};
 
 // The line of a mark: the fault, c, and the split that its certificate names. Says how long it is.
 #[tactic(auto, using(fault_list::proofs::TextLaws::runs), unfolding(crate::specs::Lines::mark_line))]
-pub(crate) fn mark_line(out: &mut [u8], fault: Fault, c: u8, certificate: &[u8]) -> usize
-    ensures length_said { (result ≡ length (mark_line fault (split c (split_frame certificate.now) (split_node certificate.now)))) × (result ≤ line_length) }
-    ensures written { out.new ≡ sets out.old 0 (mark_line fault (split c (split_frame certificate.now) (split_node certificate.now))) }
+pub(crate) fn mark_line(out: &mut [u8], fault: Fault, c: u8, head: Head) -> usize
+    ensures length_said { (result ≡ length (mark_line fault (split c head.frame head.node))) × (result ≤ line_length) }
+    ensures written { out.new ≡ sets out.old 0 (mark_line fault (split c head.frame head.node)) }
 {
-    let head = certificate::head_of(certificate);
     let mut end = put_field(out, 0, fault.node as u32, b' ');
     end += put_field(out, end, u8::from(fault.site) as u32, b' ');
     end += put_field(out, end, fault.stuck as u32, b' ');

@@ -28,7 +28,8 @@ use Rattle.simulator.specs.Statement.{Redundant}
 use Rattle.knowledge.specs.Window.{Branch, begin, present_below, most_frames}
 use Rattle.sweeps.proofs.CountingLaws.{implied_few}
 use Rattle.sweeps.proofs.ReplayedLaws.{implied_replays}
-use Rattle.certificate.proofs.WrittenLaws.{c_read, f-read, fault-read, frame-read, node-read, pairs-read, sevenths, steps_one_read, steps_zero_read, length-certificate, length_one_read, length_zero_read}
+use Rattle.certificate.proofs.WrittenLaws.{c_read, f-read, fault-read, frame-read, node-read, pairs-read, sevenths, steps_one_read, steps_zero_read}
+use Rattle.certificate.proofs.WrittenLaws.{length-certificate, length_one_read, length_zero_read}
 use Rattle.search.specs.FirstSplit.{Within}
 use Rattle.sweeps.specs.Splits.{branch_of, certificate_for, head_for, split_closes, step_count}
 use Rattle.splits.specs.declared.split.Split.{Split}

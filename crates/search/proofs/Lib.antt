@@ -1,4 +1,5 @@
 -- Laws of the definitions, which the proofs of this crate and of the crates above cite.
+pub mod QuestionLaws
 pub mod FirstLaws
 pub mod ClosingLaws
 pub mod NotesLaws

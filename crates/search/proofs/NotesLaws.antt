@@ -50,14 +50,13 @@ noted_places values c notes place = chosen (ltb c most_frames)
 
 -- where guesses stand alone nothing is noted
 pub notes_guesses : (net : Net) (f : Fault) (F : ℕ) (l : List ℕ) → ((p : ℕ) → at l p < 4) → NotedStayOpen net f F l
-unfolding NotedStayOpen
 notes_guesses net f F l low s h g e = absurd (omega (arith, low (s.frame * net.size + s.node)))
 
 -- A set whose values stay open is noted.
 pub notes_set : (net : Net) (f : Fault) (F c : ℕ) (known before after : List ℕ) → KeptOpen net f F c known → ((place : ℕ) → Noted known c before after place)
     → NotedStayOpen net f F before
     → NotedStayOpen net f F after
-unfolding NotedStayOpen Noted KeptOpen
+unfolding Noted KeptOpen
 notes_set net f F c known before after stay noted old r hr hm e = go (noted (r.frame * net.size + r.node))
   where
     go : (at after (r.frame * net.size + r.node) ≡ at before (r.frame * net.size + r.node)) ⊎ ((note_at after (r.frame * net.size + r.node) ≡ c + 1) × (at known (r.frame * net.size + r.node) < 2))

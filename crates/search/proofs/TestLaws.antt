@@ -6,6 +6,9 @@ use borrow.Author.Tests.{le-leb, leb-false, leb-true, lt-leb}
 use lib.Dec.{leb}
 use lib.ListN.{length}
 use native.Mathlib.Omega.{arith}
+use Rattle.std.specs.Prelude.{Err, Ok, Result}
+use Rattle.netlist.specs.declared.refusal.Refusal.{Refusal}
+use Rattle.netlist.specs.declared.refusal.Refusal.TheVariants.{WindowTooLong}
 use Rattle.netlist.proofs.RefusalLaws.{FirstFails, Passed, fails_here, fails_later}
 use Rattle.netlist.proofs.SoundLaws.{sound-size}
 use Rattle.circuit.specs.Fault.{fault_exists}
@@ -14,6 +17,25 @@ use Rattle.search.specs.FinderCall.{FinderCall, finder_tests, frames, largest_wi
 use Rattle.knowledge.specs.Window.{most_frames}
 use Rattle.certificate.specs.Certificate.{head_length}
 use Rattle.certificate.specs.Inner.Room.{slices_number}
+
+-- the frames of the window of c: how many there are, or that there are too many
+module _ (c f : ℕ) where
+  abbrev counted : Bool → Result ℕ Refusal
+  counted t = cond t (Ok (c + f + 1)) (Err WindowTooLong)
+
+  pub frames_given : (w : ℕ) → Ok w ≡ cond (leb (c + f + 1) most_frames) (Ok (c + f + 1)) (Err WindowTooLong) → (w ≡ c + f + 1) × (c + f + 1 ≤ most_frames)
+  frames_given w e = by (leb (c + f + 1) most_frames) refl e
+    where
+      by : (t : Bool) → leb (c + f + 1) most_frames ≡ t → Ok w ≡ counted t → (w ≡ c + f + 1) × (c + f + 1 ≤ most_frames)
+      by true h e = (cc, leb-true _ _ h)
+      by false h e = absurd (let z : ◌≡◌ {A = ℕ} 0 1 = cc in omega arith)
+
+  pub frames_refused : (r : Refusal) → Err r ≡ cond (leb (c + f + 1) most_frames) (Ok (c + f + 1)) (Err WindowTooLong) → (r ≡ WindowTooLong) × (most_frames < c + f + 1)
+  frames_refused r e = by (leb (c + f + 1) most_frames) refl e
+    where
+      by : (t : Bool) → leb (c + f + 1) most_frames ≡ t → Err r ≡ counted t → (r ≡ WindowTooLong) × (most_frames < c + f + 1)
+      by true h e = absurd (let z : ◌≡◌ {A = ℕ} 0 1 = cc in omega arith)
+      by false h e = (cc, leb-false _ _ h)
 
 -- The tests of a sound netlist of n nodes, one after the other. n × W is the size of the window.
 module _ (a : FinderCall) (n p : ℕ) (e : reading a.netlist ≡ sound n p) where

@@ -7,7 +7,6 @@ ghost use Rattle.search.specs.Inner.Search.{found, search_outcome, searched_says
 use crate::question::Question;
 use certificate::check_slices;
 use circuit::Fault;
-use knowledge::MOST_FRAMES;
 use netlist::Refusal;
 use splits::Split;
 
@@ -19,14 +18,15 @@ impl Question<'_> {
         ensures cleared { (known.new ≡ replicate (length known.old) 0) × (spare.new ≡ replicate (length spare.old) 0) }
     {
         let split = self.split_in_window(known, spare);
-        values::fill(known, 0);
-        values::fill(spare, 0);
+        known.fill(0);
+        spare.fill(0);
         split
     }
 }
 
 // The first split that closes, by c up to b, then frame, then node; f frames lie behind the fault frame,
-// and the certificate's slice has this room. Each refusal is looked for before the next.
+// and the certificate's slice has this room. Each refusal is looked for before the next. The parameters stand
+// side by side, as the C interface gives them.
 #[tactic(auto, using(netlist::proofs::SoundLaws::facts, certificate::proofs::RoomLaws::slices_fit_lem))]
 pub fn first_split(
     netlist: &[u8],
@@ -48,12 +48,9 @@ pub fn first_split(
     if !circuit::fault_exists(netlist, fault) {
         return Err(Refusal::NoSuchFault);
     }
-    let w = b as u16 + f as u16 + 1;
-    if w > MOST_FRAMES {
-        return Err(Refusal::WindowTooLong);
-    }
-    let size = n as usize * w as usize;
-    check_slices(size, first, second, room)?;
+    let frames = knowledge::frames_of(b, f)?;
+    let places = n as usize * frames as usize;
+    check_slices(places, first, second, room)?;
     let question = Question {
         netlist,
         n,
@@ -61,5 +58,5 @@ pub fn first_split(
         b,
         f,
     };
-    Ok(question.search_window(&mut first[..size], &mut second[..size]))
+    Ok(question.search_window(&mut first[..places], &mut second[..places]))
 }

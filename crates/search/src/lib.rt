@@ -9,8 +9,8 @@ mod notes;
 mod question;
 mod quick;
 mod random;
+mod search;
 mod trial;
 mod walk;
-mod work;
 
 pub use answer::first_split;

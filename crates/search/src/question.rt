@@ -22,12 +22,23 @@ pub(crate) struct Question<'a> {
     ghost frames_few: { b + f + 1 ≤ most_frames },
 }
 
+// That c is at most b is asked by each method that takes a c: it is a fact of the c that is passed, not of the
+// question. So is `Asked`, which methods of `Search` ask: it is a fact of the split.
 impl Question<'_> {
+    // The frames of the window of c. Not by `frames_of`: the question knows that they are not too many.
+    pub(crate) fn frames(&self, c: u8) -> u8
+        requires { c ≤ self.now.b }
+        ensures { result ≡ c + self.now.f + 1 }
+    {
+        c + self.f + 1
+    }
+
     // The places of the window of c: n for each frame.
     pub(crate) fn places(&self, c: u8) -> usize
+        requires { c ≤ self.now.b }
         ensures { result ≡ self.now.n * (c + self.now.f + 1) }
     {
-        self.n as usize * (c as usize + self.f as usize + 1)
+        self.n as usize * self.frames(c) as usize
     }
 
     // The window of c.
@@ -38,7 +49,7 @@ impl Question<'_> {
             n: self.n,
             fault: self.fault,
             c,
-            w: c + self.f + 1,
+            w: self.frames(c),
         }
     }
 }

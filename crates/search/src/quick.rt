@@ -1,7 +1,7 @@
 // The quick search: fan-out lists, a worklist with a trail, and 64 runs in the bits of words look for a
 // run that shows the fault, or for a set of values that keeps splits open. Nothing rests on it: of what
 // it finds nothing is promised, and no answer is given before a function with a full contract has
-// verified it (`Question::trial`, `sweeps::note_open`, `sweeps::both_close`). So a mistake here costs
+// verified it (`Circuits::trial`, `sweeps::note_open`, `sweeps::both_close`). So a mistake here costs
 // time and never an answer, and all that is proved of it is that it is safe and ends.
 mod effect;
 mod extend;

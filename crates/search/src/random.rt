@@ -91,6 +91,8 @@ impl Run {
         ensures { (k : ℕ) → k < length values.old → at values.new k < 2 }
     {
         for (place, value) in values.iter_mut().enumerate() {
+            // A circuit has no node from 65536 on: the remainder is the place itself, and a cast alone may not
+            // lose bits. No zip with the range of u16: the slice may be longer, and every place gets a value.
             let node = (place % 65536) as u16;
             *value = self.value_at(netlist, kind, node);
         }

@@ -3,7 +3,6 @@
 ghost use Rattle.std.specs.Prelude.{◌≡◌, true, ◌≤◌, length};
 ghost use Rattle.circuit.specs.Fault.{lines_of};
 ghost use Rattle.netlist.specs.Netlist.{net_of};
-ghost use Rattle.search.specs.Inner.Asked.{Fitting};
 ghost use Rattle.simulator.specs.Statement.{Redundant};
 ghost use Rattle.witness.specs.Inner.Alike.{Alike, AlikeFrom};
 
@@ -22,41 +21,53 @@ pub(crate) const NODES_AT_MOST: usize = MOST_NODES as usize;
 // How many clocks the good circuit takes beside the faulty one.
 pub(crate) const CLOCKS: u8 = 16;
 
-// What a circuit holds, a byte for each node: the values seen in the last clock, and what it has latched.
+// The faulty circuit and the good one beside it. Of each there is a byte for each node: the values seen in the
+// last clock, and what it has latched.
 #[derive(Drop)]
-struct Held<'a> {
+struct Circuits<'a> {
+    question: Question<'a>,
     values: &'a mut [u8],
     latched: &'a mut [u8],
+    good_values: &'a mut [u8],
+    good_latched: &'a mut [u8],
+    ghost faulty_fits: { (length values.now ≡ question.n) × (length latched.now ≡ question.n) },
+    ghost good_fits: { (length good_values.now ≡ question.n) × (length good_latched.now ≡ question.n) },
 }
 
-impl Question<'_> {
+impl Circuits<'_> {
     // The faulty circuit takes b clocks.
-    fn lead_in(&self, run: &mut Run, values: &mut [u8], latched: &mut [u8])
-        requires { (length values.old ≡ self.now.n) × (length latched.old ≡ self.now.n) }
-        ensures { AlikeFrom (net_of self.now.netlist.now) (lines_of self.now.fault) self.now.b latched.old → Alike (net_of self.now.netlist.now) (lines_of self.now.fault) latched.new latched.new }
+    fn lead_in(&mut self, run: &mut Run)
+        ensures alike { AlikeFrom (net_of self.old.question.netlist.now) (lines_of self.old.question.fault) self.old.question.b self.old.latched.now → Alike (net_of self.old.question.netlist.now) (lines_of self.old.question.fault) self.new.latched.now self.new.latched.now }
+        ensures same_question { self.new.question ≡ self.old.question }
     {
-        for _ in 0..self.b {
-            run.draw(self.netlist, Kind::Input, values);
-            run_clock(self.netlist, Circuit::Faulty(self.fault), latched, values);
+        let question = self.question;
+        for _ in 0..question.b {
+            run.draw(question.netlist, Kind::Input, self.values);
+            run_clock(
+                question.netlist,
+                Circuit::Faulty(question.fault),
+                self.latched,
+                self.values,
+            );
         }
     }
 
     // Whether an output differs while both circuits take clocks with the same pseudo-random inputs, each
-    // from what it has latched.
-    fn run_both(&self, run: &mut Run, faulty: &mut Held, good: &mut Held) -> bool
-        requires faulty_fits { Fitting self.now faulty.old }
-        requires good_fits { Fitting self.now good.old }
-        ensures { result ≡ true → Alike (net_of self.now.netlist.now) (lines_of self.now.fault) faulty.old.latched.now good.old.latched.now → ⊥ }
+    // from what it has latched. No `any`: nothing is known behind it of what its closure altered, as at
+    // `Search::frame_open`.
+    fn run_both(&mut self, run: &mut Run) -> bool
+        ensures { result ≡ true → Alike (net_of self.old.question.netlist.now) (lines_of self.old.question.fault) self.old.latched.now self.old.good_latched.now → ⊥ }
     {
+        let question = self.question;
         for _ in 0..CLOCKS {
-            run.draw(self.netlist, Kind::Input, faulty.values);
+            run.draw(question.netlist, Kind::Input, self.values);
             if step_both(
-                self.netlist,
-                self.fault,
-                faulty.values,
-                faulty.latched,
-                good.values,
-                good.latched,
+                question.netlist,
+                question.fault,
+                self.values,
+                self.latched,
+                self.good_values,
+                self.good_latched,
             ) {
                 return true;
             }
@@ -66,30 +77,30 @@ impl Question<'_> {
 
     // Whether an output differs once: the faulty circuit takes b clocks from a pseudo-random start, then
     // the good one takes over what it has latched, and both go on.
-    fn trial(&self, run: &mut Run, faulty: &mut Held, good: &mut Held) -> bool
-        requires faulty_fits { Fitting self.now faulty.old }
-        requires good_fits { Fitting self.now good.old }
-        ensures { result ≡ true → Redundant self.now.netlist.now self.now.fault self.now.b → ⊥ }
+    fn trial(&mut self, run: &mut Run) -> bool
+        ensures { result ≡ true → Redundant self.old.question.netlist.now self.old.question.fault self.old.question.b → ⊥ }
     {
-        let latched = &mut *faulty.latched;
-        run.draw(self.netlist, Kind::FlipFlop, latched);
-        self.lead_in(run, faulty.values, latched);
-        copy(latched, good.latched);
-        self.run_both(run, faulty, good)
+        run.draw(self.question.netlist, Kind::FlipFlop, self.latched);
+        self.lead_in(run);
+        let latched = &mut *self.latched;
+        copy(latched, self.good_latched);
+        self.run_both(run)
     }
 
     // Whether a run shows the fault at an output at or after clock b, whatever the circuits hold at first.
-    fn is_seen(&self, faulty: &mut Held, good: &mut Held) -> bool
-        requires faulty_fits { Fitting self.now faulty.old }
-        requires good_fits { Fitting self.now good.old }
-        ensures { result ≡ true → Redundant self.now.netlist.now self.now.fault self.now.b → ⊥ }
+    fn is_seen(&mut self) -> bool
+        ensures { result ≡ true → Redundant self.old.question.netlist.now self.old.question.fault self.old.question.b → ⊥ }
     {
-        let Some(lane) = quick::find_run(self.netlist, self.n, self.fault, self.b) else {
+        let question = self.question;
+        let Some(lane) = quick::find_run(question.netlist, question.n, question.fault, question.b)
+        else {
             return false;
         };
-        self.trial(&mut Run::new(lane), faulty, good)
+        self.trial(&mut Run::new(lane))
     }
+}
 
+impl Question<'_> {
     // Whether a trial shows the fault at or after clock b. The first n bytes of both work slices are used.
     #[tactic(auto, using(netlist::proofs::SoundLaws::facts))]
     pub(crate) fn rules_out(&self, known: &mut [u8], spare: &mut [u8]) -> bool
@@ -99,14 +110,13 @@ impl Question<'_> {
         let mut values = [0u8; NODES_AT_MOST];
         let mut latched = [0u8; NODES_AT_MOST];
         let end = self.n as usize;
-        let mut faulty = Held {
+        let mut circuits = Circuits {
+            question: *self,
             values: &mut known[..end],
             latched: &mut spare[..end],
+            good_values: &mut values[..end],
+            good_latched: &mut latched[..end],
         };
-        let mut good = Held {
-            values: &mut values[..end],
-            latched: &mut latched[..end],
-        };
-        self.is_seen(&mut faulty, &mut good)
+        circuits.is_seen()
     }
 }

@@ -1,50 +1,50 @@
 // The walk over splits: the first whose two branches close.
 ghost use Rattle.std.specs.Prelude.{◌≡◌, false, true, ℕ, ◌+◌, ◌<◌};
-ghost use Rattle.search.specs.Inner.Asked.{OfWindow, Ready, closing, first_closing};
+ghost use Rattle.search.specs.Inner.Asked.{OfWindow, closing, first_closing};
 ghost use Rattle.search.specs.Inner.Search.{found};
 ghost use Rattle.splits.specs.Split.{split};
 
 use crate::question::Question;
 use crate::quick::Scratch;
+use crate::search::Search;
 use crate::trial::NODES_AT_MOST;
-use crate::work::Work;
 use knowledge::MOST_FRAMES;
 use splits::Split;
 
 // Room for the guess and for notes of splits that stay open: a byte for each place of the longest window
-// of the greatest circuit.
+// of the greatest circuit. There is no heap, so it is an array, as is all room here, in `trial` and in `quick`.
 const NOTED_LENGTH: usize = MOST_FRAMES as usize * NODES_AT_MOST;
 
-impl Question<'_> {
+impl Search<'_> {
     // Walks the splits by c up to b, then frame, then node, up to the first whose two branches close. Splits
     // that are shown to stay open are noted: at the start of a window those of the guess. The split itself goes
     // on: no number is counted that a range could give.
-    fn walk_splits(&self, work: &mut Work) -> Option<Split>
-        requires ready { Ready self.now work.old }
-        ensures { found result ≡ first_closing self.now }
+    fn walk_splits(&mut self) -> Option<Split>
+        ensures { found result ≡ first_closing self.old.question }
     {
+        let question = self.question;
         let mut split = splits::first_of(0);
-        while split.is_within(self.b) {
-            self.note_window(split, work);
-            if self.closes(split, work) {
+        while split.is_within(question.b) {
+            self.note_window(split);
+            if self.closes(split) {
                 return Some(split);
             }
-            split = split.next(self.n, self.f);
+            split = split.next(question.n, question.f);
         }
         None
     }
 
-    // Whether no split of a frame closes for b.
-    fn frame_open(&self, frame: u8, work: &mut Work) -> bool
-        requires frame_within { frame < self.now.b + self.now.f + 1 }
-        requires ready { Ready self.now work.old }
-        ensures value { result ≡ true → (m : ℕ) → m < self.now.n → closing self.now (split self.now.b frame m) ≡ false }
-        ensures ready_after { Ready self.now work.new }
+    // Whether no split of a frame closes for b. No `all`, here and for the frames: nothing is known behind it of
+    // what its closure altered in the search, and the proof did not close.
+    fn frame_open(&mut self, frame: u8) -> bool
+        requires { frame < self.old.question.b + self.old.question.f + 1 }
+        ensures value { result ≡ true → (m : ℕ) → m < self.old.question.n → closing self.old.question (split self.old.question.b frame m) ≡ false }
+        ensures same_question { self.new.question ≡ self.old.question }
     {
-        let c = self.b;
-        for node in 0..self.n {
+        let c = self.question.b;
+        for node in 0..self.question.n {
             let split = Split { c, frame, node };
-            if self.closes(split, work) {
+            if self.closes(split) {
                 return false;
             }
         }
@@ -52,13 +52,12 @@ impl Question<'_> {
     }
 
     // Whether no split closes for b, frame by frame.
-    fn frames_open(&self, work: &mut Work) -> bool
-        requires ready { Ready self.now work.old }
-        ensures value { result ≡ true → (t m : ℕ) → t < self.now.b + self.now.f + 1 → m < self.now.n → closing self.now (split self.now.b t m) ≡ false }
-        ensures ready_after { Ready self.now work.new }
+    fn frames_open(&mut self) -> bool
+        ensures value { result ≡ true → (t m : ℕ) → t < self.old.question.b + self.old.question.f + 1 → m < self.old.question.n → closing self.old.question (split self.old.question.b t m) ≡ false }
+        ensures same_question { self.new.question ≡ self.old.question }
     {
-        for frame in 0..self.b + self.f + 1 {
-            if !self.frame_open(frame, work) {
+        for frame in 0..self.question.frames(self.question.b) {
+            if !self.frame_open(frame) {
                 return false;
             }
         }
@@ -67,47 +66,51 @@ impl Question<'_> {
 
     // Whether it is shown that no split closes for b: then none closes for any smaller c. Asked only where
     // there is a smaller c and something is guessed: where nothing is, some split most likely closes.
-    fn window_open(&self, work: &mut Work) -> bool
-        requires ready { Ready self.now work.old }
-        ensures value { result ≡ true → (t m : ℕ) → t < self.now.b + self.now.f + 1 → m < self.now.n → closing self.now (split self.now.b t m) ≡ false }
-        ensures ready_after { Ready self.now work.new }
+    fn window_open(&mut self) -> bool
+        ensures value { result ≡ true → (t m : ℕ) → t < self.old.question.b + self.old.question.f + 1 → m < self.old.question.n → closing self.old.question (split self.old.question.b t m) ≡ false }
+        ensures same_question { self.new.question ≡ self.old.question }
     {
-        let noted = &mut *work.noted;
-        if self.asks_first(noted) {
-            self.note_window(splits::first_of(self.b), work);
-            return self.frames_open(work);
+        if self.asks_first() {
+            self.note_window(splits::first_of(self.question.b));
+            return self.frames_open();
         }
         false
     }
 
     // The first split that closes. Where none closes for b, none does for smaller c, and the splits are not
     // walked.
-    fn search_windows(&self, work: &mut Work) -> Option<Split>
-        requires ready { Ready self.now work.old }
-        ensures { found result ≡ first_closing self.now }
+    fn search_windows(&mut self) -> Option<Split>
+        ensures { found result ≡ first_closing self.old.question }
     {
-        if self.window_open(work) {
+        if self.window_open() {
             return None;
         }
-        self.walk_splits(work)
+        self.walk_splits()
     }
+}
 
-    // The same with room for notes and for the quick search, and with a guess.
+// Each of these functions asks that the two slices have the window's size, as does `search_window`. `Search` has
+// that as a fact of its own, but is made only here, once there are notes. A struct of the question and the two
+// slices alone, for the calls before that, would be no plainer.
+impl Question<'_> {
+    // Searches the windows with room for notes and for the quick search, and with a guess.
     #[tactic(auto, using(crate::proofs::NotesLaws::notes_guesses))]
     fn guess_and_search(&self, known: &mut [u8], spare: &mut [u8]) -> Option<Split>
         requires { OfWindow self.now self.now.b known.old spare.old }
         ensures { found result ≡ first_closing self.now }
     {
         let mut noted = [0u8; NOTED_LENGTH];
-        let mut scratch = Scratch::new(self.netlist, self.n);
+        let mut scratch = Scratch::new();
+        scratch.read(self.netlist, self.n);
         self.grow(&mut noted, known, &mut scratch);
-        let mut work = Work {
+        let mut search = Search {
+            question: *self,
             known,
             spare,
             noted: &mut noted,
             scratch: &mut scratch,
         };
-        self.search_windows(&mut work)
+        search.search_windows()
     }
 
     // The first split whose two branches close, by c up to b, then frame, then node. Where the fault is seen

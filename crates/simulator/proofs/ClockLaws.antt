@@ -13,7 +13,9 @@ use Rattle.gates.proofs.ValueLaws.{stuck-free, stuck-known}
 use Rattle.netlist.proofs.SoundLaws.{Facts, facts}
 use Rattle.simulator.specs.Clock.{latched_by, latched_list, pin_values, seen_by, seen_list}
 use Rattle.simulator.specs.Inner.Places.{latched_into, settled}
-use Rattle.circuit.specs.Fault.{StuckLines}
+use Rattle.circuit.proofs.FaultLaws.{held_free, held_is, held_low}
+use Rattle.circuit.specs.Fault.{StuckLines, held}
+use Rattle.std.specs.Prelude.{Some}
 use Rattle.gates.specs.Kind.{gate, is_flip_flop, is_given, is_input}
 use Rattle.values.specs.Lists.{at, build}
 use Rattle.netlist.specs.Netlist.{Net, kind_of, length_of, net_of, node_count, pins_of, reading, sound, source_of}
@@ -24,6 +26,9 @@ module _ (c : Net) (s : StuckLines) (given v : ℕ → ℕ) (n : ℕ) where
   pub seen_by-stuck : s.node n < 2 → seen_by c s given v n ≡ s.node n
   unfolding seen_by
   seen_by-stuck h = stuck-known (s.node n) _ h
+
+  pub seen_by-held : (u : ℕ) → held (s.node n) ≡ Some u → u ≡ seen_by c s given v n
+  seen_by-held u e = held_is (s.node n) u e ∙ sym (seen_by-stuck (held_low (s.node n) u e))
 
   -- another input or flip-flop at what the clock step is given there
   pub seen_by-given : 2 ≤ s.node n → is_given (c.kind n) ≡ true → seen_by c s given v n ≡ given n
@@ -36,7 +41,7 @@ module _ (c : Net) (s : StuckLines) (given v : ℕ → ℕ) (n : ℕ) where
   seen_by-gate h e = stuck-free (s.node n) _ h ∙ rw e
 
 -- what a node is seen as, in each of these cases
-pub ruleset seen_cases = (seen_by-stuck, seen_by-given, seen_by-gate)
+pub ruleset seen_cases = (seen_by-held, held_free, seen_by-given, seen_by-gate)
 
 -- a circuit without loops but through flip-flops: sources are nodes, and a gate's or output's sources have smaller numbers
 pub record Ordered (c : Net) : Type 0 where

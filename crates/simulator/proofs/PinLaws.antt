@@ -1,6 +1,7 @@
 -- Laws of what a node's pins read, as the code walks them: by pin number, from the last pin on.
 use mathlib.Core.List.{List, [], ◌∷◌}
-use mathlib.Core.Path.{◌∙◌, ◌≡◌, subst}
+use mathlib.Core.Bool.{false≢true}
+use mathlib.Core.Path.{◌∙◌, ◌≡◌, ap, subst}
 use Prim.Native.Nat.{◌-◌, ◌<◌, ◌≤◌, suc, zero, ℕ}
 use native.Mathlib.Nat.{zero-add}
 use native.Mathlib.Omega.{arith}
@@ -10,11 +11,14 @@ use Rattle.values.proofs.ListLaws.{indexed-at, length-indexed}
 use Rattle.netlist.proofs.NetlistLaws.{pins-at, pins-length}
 use Rattle.simulator.specs.Clock.{pin_values}
 use Rattle.circuit.specs.Fault.{StuckLines}
-use Rattle.gates.specs.Kind.{function_of, join_of, unit_of}
+use Rattle.gates.specs.Kind.{controlling_of, function_of, join_of, unit_of}
 use Rattle.values.specs.Lists.{at, indexed}
 use Rattle.netlist.specs.Netlist.{Net, length_of, net_of, source_of}
 use Rattle.gates.specs.Value.{stuck_or}
 use Rattle.gates.specs.declared.kind.Gate.{Gate}
+use Rattle.gates.specs.declared.kind.Gate.TheVariants.{And, Or, Wire, Xor}
+use Rattle.gates.proofs.ValueLaws.{and_zero, or_one}
+use Rattle.std.specs.Prelude.{Some, is_some, unwrap_or}
 
 module _ (net : Net) (s : StuckLines) (v : ℕ → ℕ) (n : ℕ) where
   -- one value for each pin
@@ -67,3 +71,10 @@ module _ (g : Gate) (w : ℕ) (stays : (v : ℕ) → join_of g v w ≡ w) where
   function_stays vs zero h e = e
   function_stays [] (suc j) h e = absurd (omega arith)
   function_stays (v ∷ vs) (suc j) h e = rw (function_stays vs j (omega arith) e) (stays v)
+
+-- so does an AND's 0 and an OR's 1
+pub settled_stays : (g : Gate) (w v : ℕ) → controlling_of g ≡ Some w → join_of g v w ≡ w
+settled_stays Wire w v e = absurd (false≢true (ap is_some e))
+settled_stays And w v e = let z : 0 ≡ w = ap (λ o. unwrap_or o 0) e in rw (← z, and_zero v)
+settled_stays Or w v e = let z : 1 ≡ w = ap (λ o. unwrap_or o 1) e in rw (← z, or_one v)
+settled_stays Xor w v e = absurd (false≢true (ap is_some e))

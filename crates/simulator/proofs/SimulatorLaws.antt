@@ -96,9 +96,12 @@ slices_fitting c first second e =
     rest : (eqb (length second) c.size && every (place_fits c first) c.size) ≡ true
     rest = and_right (eqb (length first) c.size) (eqb (length second) c.size && every (place_fits c first) c.size) e
 
+    places : every (place_fits c first) c.size ≡ true
+    places = and_right (eqb (length second) c.size) (every (place_fits c first) c.size) rest
+
     low : (n : ℕ) → n < c.size → is_given (c.kind n) ≡ true → at first n < 2
     low n h q =
-        let l = leb-true (at first n) 1 (implied (is_given (c.kind n)) (leb (at first n) 1) (every-at (place_fits c first) c.size (and_right (eqb (length second) c.size) (every (place_fits c first) c.size) rest) n h) q) in
+        let l = leb-true (at first n) 1 (implied (is_given (c.kind n)) (leb (at first n) 1) (every-at (place_fits c first) c.size places n h) q) in
         omega arith
 
 -- and slices like these pass the test
@@ -117,7 +120,10 @@ fitting_slices c first second f =
 
 -- the two halves of a clock step, one after the other on slices that fit, make the step
 pub step_halves : (a : SimulatorCall) (n p : ℕ) → reading a.netlist ≡ sound n p → Fitting (net_of a.netlist) a.first a.second
-    → outcome (answered []) (settled (net_of a.netlist) (lines_in a.circuit) n a.first) (latched_into (net_of a.netlist) (lines_in a.circuit) (at (settled (net_of a.netlist) (lines_in a.circuit) n a.first)) n a.second) ≡ clock_step a
+    → (let net = net_of a.netlist in
+    let s = lines_in a.circuit in
+    let seen = settled net s n a.first in
+    outcome (answered []) seen (latched_into net s (at seen) n a.second) ≡ clock_step a)
 unfolding clock_step
 step_halves a n p e h =
     let net = net_of a.netlist in

@@ -1,16 +1,19 @@
 // One clock step of a circuit, good or faulty.
 ghost use Rattle.std.specs.Prelude.{◌≡◌, ◌*◌, ◌+◌, ◌<◌, ℕ, List, length, set, true};
 ghost use Rattle.values.specs.Lists.{at, every};
+ghost use Rattle.values.specs.Inner.Rewriting.{rewritten};
 ghost use Rattle.netlist.specs.Netlist.{kind_of, length_of, net_of, node_count, offset_of};
-ghost use Rattle.gates.specs.Kind.{function_of, gate, join_of, rule_of};
+ghost use Rattle.gates.specs.Kind.{function_of, gate, inverted_if, join_of, rule_of};
 ghost use Rattle.circuit.specs.Fault.{lines_in};
 ghost use Rattle.netlist.specs.Answer.{outcome};
 ghost use Rattle.simulator.specs.Clock.{pin_values, seen_by, latched_by, place_fits, slices_fit, simulator_call, simulation, stepped_says};
 ghost use Rattle.simulator.specs.Inner.Places.{settled, latched_into};
 
-use circuit::{Circuit, circuit_exists, stuck_or};
-use gates::{Gate, Kind, Rule, UNKNOWN, inverted_if, join_of, unit_of};
-use netlist::{Refusal, is_given, is_of_kind, length_of, pins_place, read, rule_of, source_at};
+use circuit::{Circuit, circuit_exists, held, stuck_or};
+use gates::{Gate, Kind, Rule, controlling_value, inverted_if, join_of, unit_of};
+use netlist::{
+    Refusal, is_given, is_of_kind, length_of, node_count, pins_place, read, rule_of, source_at,
+};
 use values::{byte_at, store};
 
 // The most pins that are few; no answer depends on it. Few pins have a loop of their own: where one loop
@@ -43,16 +46,16 @@ struct AssumedPins<'a> {
     assumption: u8,
 }
 
-// What a gate's function is made of: the values that a node's pins read, in their order.
-trait PinValues {
+// What a gate's function is made of: the values that a node's pins read, in their order. A value is promised
+// of the pins below the count; of a pin that is not there any number may be given.
+pub trait PinValues {
     ghost values: { Self → List ℕ };
 
     fn count(&self) -> u16
         ensures { result ≡ length (values self.now) };
 
     fn value(&self, pin: u16) -> u8
-        requires { pin < length (values self.now) }
-        ensures { result ≡ at (values self.now) pin };
+        ensures { pin < length (values self.now) → result ≡ at (values self.now) pin };
 }
 
 impl PinValues for Pins<'_> {
@@ -87,20 +90,16 @@ impl<'a> PinValues for AssumedPins<'a> {
     }
 }
 
-// True only where a gate's value stays whatever the pins in front read: an AND's 0, an OR's 1. Where it is
-// false although the value stays, pins are looked at for nothing.
+// Whether a gate's value stays whatever the pins in front read: an AND's 0, an OR's 1.
+#[tactic(auto, using(crate::proofs::PinLaws::settled_stays))]
 fn value_stays(gate: Gate, value: u8) -> bool
     ensures { result ≡ true → (v : ℕ) → join_of gate v value ≡ value }
 {
-    match gate {
-        Gate::And => value == 0,
-        Gate::Or => value == 1,
-        _ => false,
-    }
+    controlling_value(gate) == Some(value)
 }
 
 // A gate's function of pins' values, which are joined from the last pin on. Where it stops early, pins in
-// front of a value that stays are not looked at.
+// front of a value that stays are not looked at: that it may stop is why it is a loop and no fold.
 fn function_of<const STOPS: bool, P: PinValues>(pins: &P, gate: Gate) -> u8
     ensures { result ≡ function_of gate (P.values pins.now) }
 {
@@ -116,9 +115,8 @@ fn function_of<const STOPS: bool, P: PinValues>(pins: &P, gate: Gate) -> u8
 }
 
 // What a node of a kind with this rule makes of its pins' values.
-#[tactic(auto, unfolding(gates::specs::Kind::gate))]
-fn gate_of<P: PinValues>(rule: Rule, pins: &P) -> u8
-    ensures { (k : ℕ) → rule ≡ rule_of k → result ≡ gate k (P.values pins.now) }
+pub fn gate_of<P: PinValues>(rule: Rule, pins: &P) -> u8
+    ensures { result ≡ inverted_if rule.inverted (function_of rule.gate (P.values pins.now)) }
 {
     let value = if FEW_PINS < pins.count() {
         function_of::<true, P>(pins, rule.gate)
@@ -129,6 +127,20 @@ fn gate_of<P: PinValues>(rule: Rule, pins: &P) -> u8
 }
 
 impl<'a> Node<'a> {
+    fn of(netlist: &'a [u8], circuit: Circuit, seen: &'a [u8], number: u16) -> Self
+        ensures netlist { result.netlist.now ≡ netlist.now }
+        ensures circuit { result.circuit ≡ circuit }
+        ensures seen { result.seen.now ≡ seen.now }
+        ensures number { result.number ≡ number }
+    {
+        Node {
+            netlist,
+            circuit,
+            seen,
+            number,
+        }
+    }
+
     fn rule(&self) -> Rule
         ensures { result ≡ rule_of (kind_of self.now.netlist.now self.now.number) }
     {
@@ -149,10 +161,12 @@ impl<'a> Node<'a> {
     fn seen_value(&self) -> u8
         ensures { let n = self.now in result ≡ seen_by (net_of n.netlist.now) (lines_in n.circuit) (at n.seen.now) (at n.seen.now) n.number }
     {
-        match self.circuit.stuck_node(self.number) {
-            Some(stuck) if stuck < UNKNOWN => stuck,
-            _ if is_given(self.netlist, self.number) => byte_at(self.seen, self.number as usize),
-            _ => gate_value(self.netlist, self.circuit, self.seen, self.number),
+        match held(self.circuit.stuck_node(self.number)) {
+            Some(value) => value,
+            None if is_given(self.netlist, self.number) => {
+                byte_at(self.seen, self.number as usize)
+            }
+            None => gate_value(self.netlist, self.circuit, self.seen, self.number),
         }
     }
 
@@ -165,6 +179,7 @@ impl<'a> Node<'a> {
             return 0;
         }
         let pins = self.pins();
+        // the definition gives 0 at a flip-flop without a pin
         if pins.count() == 0 {
             return 0;
         }
@@ -172,7 +187,9 @@ impl<'a> Node<'a> {
     }
 }
 
-// What a node makes of its pins' values, where the assumed pin is taken to read the assumption.
+// What a node makes of its pins' values, where the assumed pin is taken to read the assumption. The node's
+// parts are parameters, as in gate_value: they pass in registers.
+#[tactic(auto, unfolding(gates::specs::Kind::gate))]
 pub fn gate_assuming(
     netlist: &[u8],
     circuit: Circuit,
@@ -183,12 +200,7 @@ pub fn gate_assuming(
 ) -> u8
     ensures { result ≡ gate (kind_of netlist.now node) (set (pin_values (net_of netlist.now) (lines_in circuit) (at seen.now) node) assumed assumption) }
 {
-    let node = Node {
-        netlist,
-        circuit,
-        seen,
-        number: node,
-    };
+    let node = Node::of(netlist, circuit, seen, node);
     let pins = AssumedPins {
         pins: node.pins(),
         assumed,
@@ -199,51 +211,50 @@ pub fn gate_assuming(
 
 // What a node makes of its pins' values. No method of Node: its parts pass in registers, where a node passes
 // through memory, which cost 15 instructions a call.
+#[tactic(auto, unfolding(gates::specs::Kind::gate))]
 pub fn gate_value(netlist: &[u8], circuit: Circuit, seen: &[u8], node: u16) -> u8
     ensures { result ≡ gate (kind_of netlist.now node) (pin_values (net_of netlist.now) (lines_in circuit) (at seen.now) node) }
 {
-    let node = Node {
-        netlist,
-        circuit,
-        seen,
-        number: node,
-    };
+    let node = Node::of(netlist, circuit, seen, node);
     gate_of(node.rule(), &node.pins())
+}
+
+// Puts into the first n places what is worked out for each from the slice as it then stands, by rising number. The
+// loop reads what it has written, so there is no iterator over the slice.
+#[tactic(auto, using(values::proofs::ListLaws::rewritten_more), unfolding(values::specs::Inner::Rewriting::rewritten))]
+fn rewrite<F: Fn(&[u8], u16) -> u8>(n: u16, bytes: &mut [u8], value: F)
+    requires { F.IsAlwaysCallable value }
+    ensures { (f : List ℕ → ℕ → ℕ) → ((s : _) (k r : ℕ) → F.post value s k r → r ≡ f s.now k) → bytes.new ≡ rewritten f n bytes.old }
+{
+    for number in 0..n {
+        let put = value(bytes, number);
+        store(bytes, number as usize, put);
+    }
 }
 
 // Puts the seen values of the first n nodes into their places, by rising node number: each from its
 // own place and its sources' places.
-#[tactic(auto, using(values::proofs::ListLaws::rewritten_more), unfolding(values::specs::Inner::Rewriting::rewritten, crate::specs::Inner::Places::settled))]
+#[tactic(auto, unfolding(crate::specs::Inner::Places::settled))]
 pub fn settle(netlist: &[u8], n: u16, circuit: Circuit, first: &mut [u8])
     ensures { first.new ≡ settled (net_of netlist.now) (lines_in circuit) n first.old }
 {
-    for number in 0..n {
-        let node = Node {
-            netlist,
-            circuit,
-            seen: first,
-            number,
-        };
-        let value = node.seen_value();
-        store(first, number as usize, value);
-    }
+    rewrite(
+        n,
+        first,
+        |seen, number| Node::of(netlist, circuit, seen, number).seen_value(),
+    );
 }
 
 // Puts what each of the first n nodes latches into its place.
-#[tactic(auto, using(values::proofs::ListLaws::rewritten_more), unfolding(values::specs::Inner::Rewriting::rewritten, crate::specs::Inner::Places::latched_into))]
+#[tactic(auto, unfolding(crate::specs::Inner::Places::latched_into))]
 pub fn latch(netlist: &[u8], n: u16, circuit: Circuit, seen: &[u8], second: &mut [u8])
     ensures { second.new ≡ latched_into (net_of netlist.now) (lines_in circuit) (at seen.now) n second.old }
 {
-    for number in 0..n {
-        let node = Node {
-            netlist,
-            circuit,
-            seen,
-            number,
-        };
-        let value = node.latched_value();
-        store(second, number as usize, value);
-    }
+    rewrite(
+        n,
+        second,
+        |_, number| Node::of(netlist, circuit, seen, number).latched_value(),
+    );
 }
 
 // The places of inputs and flip-flops are read, and have to hold 0 or 1.
@@ -261,17 +272,16 @@ fn places_fit(netlist: &[u8], n: u16, first: &[u8]) -> bool
 }
 
 // Both slices have a place for each node, and the places that are read hold 0 or 1.
-#[tactic(auto, using(crate::proofs::SimulatorLaws::slices_parts))]
-fn slices_fit(netlist: &[u8], n: u16, first: &[u8], second: &[u8]) -> bool
-    requires { n ≡ (net_of netlist.now).size }
+#[tactic(auto, using(crate::proofs::SimulatorLaws::slices_parts), unfolding(netlist::specs::Netlist::net_of))]
+fn slices_fit(netlist: &[u8], first: &[u8], second: &[u8]) -> bool
     ensures { result ≡ slices_fit (net_of netlist.now) first.now second.now }
 {
+    let n = node_count(netlist);
     first.len() == n as usize && (second.len() == n as usize && places_fit(netlist, n, first))
 }
 
 // One clock step. Once it is done the first slice holds the seen values, the second what is latched;
 // a refusal alters neither.
-#[tactic(auto, using(netlist::proofs::RefusalLaws::fails_here, netlist::proofs::RefusalLaws::fails_later, crate::proofs::SimulatorLaws::slices_fitting, crate::proofs::SimulatorLaws::step_halves))]
 pub fn simulate(
     netlist: &[u8],
     circuit: Circuit,
@@ -289,7 +299,7 @@ pub fn simulate(
     if !circuit_exists(netlist, circuit) {
         return Err(Refusal::NoSuchFault);
     }
-    if !slices_fit(netlist, n, first, second) {
+    if !slices_fit(netlist, first, second) {
         return Err(Refusal::SlicesUnfit);
     }
     settle(netlist, n, circuit, first);

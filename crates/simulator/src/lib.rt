@@ -4,4 +4,4 @@
 
 mod clock;
 
-pub use clock::{gate_assuming, gate_value, latch, settle, simulate};
+pub use clock::{PinValues, gate_assuming, gate_of, gate_value, latch, settle, simulate};

@@ -4,5 +4,5 @@
 mod notes;
 mod split;
 
-pub use notes::{NOTE_UNIT, note_known};
+pub use notes::{guess_in, note_known, noted_c};
 pub use split::{Split, first_of};

@@ -3,9 +3,8 @@ ghost use Rattle.std.specs.Prelude.{◌≡◌, leb};
 ghost use Rattle.splits.specs.Split.{split};
 ghost use Rattle.splits.specs.Inner.Next.{next_split};
 
-// A node at a frame of the window whose fault frame is c. Splits are ordered as they are tried: by c, then
-// frame, then node.
-#[derive(Clone, Copy, Debug, PartialEq, Eq, PartialOrd, Ord)]
+// A node at a frame of the window whose fault frame is c.
+#[derive(Clone, Copy, Debug, PartialEq, Eq)]
 pub struct Split {
     pub c: u8,
     pub frame: u8,
@@ -13,11 +12,11 @@ pub struct Split {
 }
 
 // The first split of a window, which is named by its c.
-pub fn first_of(window: u8) -> Split
-    ensures { result ≡ split window 0 0 }
+pub fn first_of(c: u8) -> Split
+    ensures { result ≡ split c 0 0 }
 {
     Split {
-        c: window,
+        c,
         frame: 0,
         node: 0,
     }
@@ -32,33 +31,30 @@ impl Split {
     }
 
     // The following split, in a circuit of n nodes, where a window has f frames behind its fault
-    // frame: by c, then frame, then node. A split of a window above 255 frames stays.
+    // frame: by c, then frame, then node. By value, as document 01 names this form: a split of a window above
+    // 255 frames stays, since its bytes have no following one.
     #[tactic(auto, unfolding(crate::specs::Inner::Next::next_split))]
     pub fn next(self, n: u16, f: u8) -> Split
         ensures { result ≡ next_split n f self }
     {
         let Split { c, frame, node } = self;
-        if c as u16 + f as u16 >= 255 {
+        let last = c.saturating_add(f);
+        if last == u8::MAX {
             return self;
         }
-        if (node as u32) + 1 < n as u32 {
+        if node.saturating_add(1) < n {
             return Split {
-                c,
-                frame,
                 node: node + 1,
+                ..self
             };
         }
-        if (frame as u16) < c as u16 + f as u16 {
+        if frame < last {
             return Split {
-                c,
                 frame: frame + 1,
                 node: 0,
+                ..self
             };
         }
-        Split {
-            c: c + 1,
-            frame: 0,
-            node: 0,
-        }
+        first_of(c + 1)
     }
 }

@@ -1,5 +1,6 @@
 -- What a trial shows: a set that is said to be open, and what is known in a branch that stays open, keep each of their values open as a
 -- split. And how many steps a certificate has at most.
+use Rattle.std.specs.Prelude.{Option, Some}
 use mathlib.Core.Bool.{Bool, ◌&&◌, cond, false, false≢true, not, true}
 use mathlib.Core.List.{List, []}
 use mathlib.Core.Path.{◌∙◌, ◌≡◌, ap, refl, sym}
@@ -118,15 +119,14 @@ module _ (bs : List ℕ) (n p : ℕ) (sounds : reading bs ≡ sound n p) (f : Fa
       let done = e ∙ sym (trying-stands bs f F s values touched holds g) in
       (ap (λ (t : Tried). t.answer) done, ap (λ (t : Tried). t.known) done)
 
-  pub certificate_says : (certificate : List ℕ) → head_length + 14 * length values ≤ length certificate → (r : ℕ) (k x : List ℕ)
+  pub certificate_says : (certificate : List ℕ) → head_length + 14 * length values ≤ length certificate → (r : Option ℕ) (k x : List ℕ)
       → certified r k x ≡ certifying bs f F s values certificate
-      → (r ≡ step_count (net_of bs) f F s) × (r ≤ 2 * ((net_of bs).size * (s.c + F + 1))) × (x ≡ written (certificate_for (net_of bs) f F s) certificate)
+      → (r ≡ Some (step_count (net_of bs) f F s)) × (step_count (net_of bs) f F s ≤ 2 * ((net_of bs).size * (s.c + F + 1))) × (x ≡ written (certificate_for (net_of bs) f F s) certificate)
       × (k ≡ replicate (length values) 0)
   certificate_says certificate g r k x e =
-      let done = e ∙ sym (certifying-stands bs f F s values certificate holds g) in
-      let count = ap (λ (t : Certified). t.count) done in (
-        count,
-        omega (arith, count, steps-few (net_of bs) (sound-ordered bs n p sounds) f F s hn ht),
+      let done = e ∙ sym (certifying-stands bs f F s values certificate holds g) in (
+        ap (λ (t : Certified). t.count) done,
+        steps-few (net_of bs) (sound-ordered bs n p sounds) f F s hn ht,
         ap (λ (t : Certified). t.certificate) done,
         ap (λ (t : Certified). t.known) done,
       )

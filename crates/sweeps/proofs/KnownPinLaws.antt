@@ -138,7 +138,9 @@ module _ (net : Net) (S : ℕ → StuckLines) where
       o : ℕ
       o = at w.known (t * net.size + n)
 
-      by_value : w.closed ≡ false → (2 ≤ pin_conclusion net (S (pin_frame (net.kind n) t)) kn n o k) ⊎ (pin_conclusion net (S (pin_frame (net.kind n) t)) kn n o k ≡ kn (at (net.pins n) k)) → try_line (in_bytes net.size) net S n t (suc k) w ≡ w
+      by_value : w.closed ≡ false
+          → (2 ≤ pin_conclusion net (S (pin_frame (net.kind n) t)) kn n o k) ⊎ (pin_conclusion net (S (pin_frame (net.kind n) t)) kn n o k ≡ kn (at (net.pins n) k))
+          → try_line (in_bytes net.size) net S n t (suc k) w ≡ w
       by_value c (inl h) = line-silent net S n t (suc k) w (made net S n t (suc k) w) refl c h
       by_value c (inr q) = line-old net S n t (suc k) w (made net S n t (suc k) w) refl c (omega (arith, q, hx)) (pin_frame (net.kind n) t * net.size + at (net.pins n) k) refl (sym q)
 

@@ -48,7 +48,8 @@ module _ (net : Net) (f : Fault) (F : ℕ) (s : Split) where
 
   -- the three writes: branch 0's steps behind the head, branch 1's straight after them, and the head
   pub certificate-written : (l : List ℕ) → head_length + (7 * length r₀ + 7 * length r₁) ≤ length l
-      → sets (sets (sets l head_length (run_bytes r₀)) (head_length + 7 * length r₀) (run_bytes r₁)) 0 (head_bytes (head_for f F s) (7 * length r₀) (7 * length r₁)) ≡ written (certificate_for net f F s) l
+      → sets (sets (sets l head_length (run_bytes r₀)) (head_length + 7 * length r₀) (run_bytes r₁)) 0 (head_bytes (head_for f F s) (7 * length r₀) (7 * length r₁))
+      ≡ written (certificate_for net f F s) l
   unfolding certificate_for certificate_of
   certificate-written l h =
       let hs = head_bytes (head_for f F s) (7 * length r₀) (7 * length r₁) in

@@ -153,8 +153,11 @@ module _ (net : Net) (o : Ordered net) (S : ℕ → StuckLines) (W : ℕ) (run :
 
       go : (p q : Bool) → q ≡ p → (Stands b' w' → Stands (sweeps (branches net S) net S W m b') (sweeps (in_bytes net.size) net S W m w'))
           → Stands (elim p [ true ↦ b' | false ↦ sweeps (branches net S) net S W m b' ]) (elim q [ true ↦ w' | false ↦ sweeps (in_bytes net.size) net S W m w' ])
-      go p q e k = subst (λ (x : Bool). Stands (elim p [ true ↦ b' | false ↦ sweeps (branches net S) net S W m b' ]) (elim x [ true ↦ w' | false ↦ sweeps (in_bytes net.size) net S W m w' ])) (sym e) (on p k)
+      go p q e k = subst (λ (x : Bool). Stands (ended p) (elim x [ true ↦ w' | false ↦ sweeps (in_bytes net.size) net S W m w' ])) (sym e) (on p k)
         where
+          ended : Bool → Branch
+          ended p = elim p [ true ↦ b' | false ↦ sweeps (branches net S) net S W m b' ]
+
           on : (p : Bool) → (Stands b' w' → Stands (sweeps (branches net S) net S W m b') (sweeps (in_bytes net.size) net S W m w'))
               → Stands (elim p [ true ↦ b' | false ↦ sweeps (branches net S) net S W m b' ]) (elim p [ true ↦ w' | false ↦ sweeps (in_bytes net.size) net S W m w' ])
           on true k = r'

@@ -1,4 +1,5 @@
 -- What the definitions of Trials say: a window that stands, and the bytes of what is known in it.
+use Rattle.std.specs.Prelude.{Some}
 use mathlib.Core.Bool.{Bool, ◌&&◌, cond, false, not, true}
 use mathlib.Core.List.{List, [], ◌∷◌}
 use mathlib.Core.Path.{◌∙◌, ◌≡◌, ap, refl, sym}
@@ -17,7 +18,8 @@ use Rattle.values.specs.Lists.{at, every}
 use Rattle.gates.specs.Value.{is_unknown}
 use Rattle.netlist.proofs.SoundLaws.{answered-sound, refused_positive}
 use Rattle.netlist.specs.Answer.{Answer, answered, number_of, refused}
-use Rattle.circuit.specs.Fault.{StuckLines, fault_exists, lines_of}
+use Rattle.circuit.proofs.FaultLaws.{held_is, held_low}
+use Rattle.circuit.specs.Fault.{StuckLines, fault_exists, held, lines_of}
 use Rattle.netlist.specs.Netlist.{Net, net_of, node_count, pin_count, reading, sound}
 use Rattle.circuit.specs.declared.fault.Fault.{Fault}
 use Rattle.knowledge.proofs.HoldLaws.{place-within}
@@ -140,14 +142,10 @@ module _ (bs : List ℕ) (f : Fault) (F : ℕ) (s : Split) (values : List ℕ) w
 
   -- the certificate is written
   pub certifying-stands : (certificate : List ℕ) → window_stands bs f F s (length values) ≡ true → head_length + 14 * length values ≤ length certificate
-      → certified (step_count (net_of bs) f F s) (replicate (length values) 0) (written (certificate_for (net_of bs) f F s) certificate)
+      → certified (Some (step_count (net_of bs) f F s)) (replicate (length values) 0) (written (certificate_for (net_of bs) f F s) certificate)
       ≡ certifying bs f F s values certificate
   unfolding certifying
   certifying-stands certificate e g = rw (e, le-leb _ _ g)
-
-pub certified-same : {a b : ℕ} {k l m n : List ℕ} → a ≡ b → k ≡ l → m ≡ n → certified a k m ≡ certified b l n
-certified-same {a} {b} {k} {l} {m} {n} e f g =
-    ap (λ (x : ℕ). certified x k m) e ∙ ap (λ (x : List ℕ). certified b x m) f ∙ ap (certified b l) g
 
 -- ---- held values
 
@@ -171,11 +169,9 @@ module _ (N : ℕ) (f : Fault) (c : ℕ) (values : List ℕ) where
   has_all have = sym (or_second (is_unknown stuck) (every has c) (every-by has c (λ t h. eq-eqb _ _ (have t h))))
 
   -- every frame below c is looked at
-  pub has_by_frames : (u : ℕ) → u ≡ stuck → u < 2 → (r : Bool) → r ≡ every (λ t. eqb (at values (t * N + f.node)) u) c → r ≡ has_held N f c values
+  pub has_by_frames : (u : ℕ) → held stuck ≡ Some u → (r : Bool) → r ≡ every (λ t. eqb (at values (t * N + f.node)) u) c → r ≡ has_held N f c values
   unfolding has_held
-  has_by_frames u same low r e =
-      let h : stuck < 2 = omega arith in
-      rw (known-low stuck h) (e ∙ ap (λ (x : ℕ). every (λ t. eqb (at values (t * N + f.node)) x) c) same)
+  has_by_frames u e r q = rw (known-low stuck (held_low stuck u e)) (q ∙ ap (λ (x : ℕ). every (λ t. eqb (at values (t * N + f.node)) x) c) (held_is stuck u e))
 
   pub has-held : has_held N f c values ≡ true → HasHeld N f c values
   unfolding has_held

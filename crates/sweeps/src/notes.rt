@@ -6,7 +6,8 @@ use crate::open::is_open_set;
 use circuit::Fault;
 use splits::note_known;
 
-// Notes a set where it keeps its values open, and says whether it does.
+// Notes a set where it keeps its values open, and says whether it does: the search goes on either way, but the
+// answer is promised with what is noted. The parameters stand side by side, as those of knowledge::conclude do.
 #[tactic(auto, unfolding(crate::specs::Inner::Trials::noting_open))]
 pub fn note_open(
     netlist: &[u8],
@@ -19,9 +20,9 @@ pub fn note_open(
 ) -> bool
     ensures { noting (tried result known.new touched.new) noted.new ≡ noting_open netlist.now fault c f known.old touched.old noted.old }
 {
-    if !is_open_set(netlist, fault, c, f, known, touched) {
-        return false;
+    let open = is_open_set(netlist, fault, c, f, known, touched);
+    if open {
+        note_known(known, c, noted);
     }
-    note_known(known, c, noted);
-    true
+    open
 }

@@ -11,11 +11,13 @@ use certificate::{STEP_LENGTH, put_step};
 use gates::UNKNOWN;
 use knowledge::MOST_FRAMES;
 
-// A byte for each frame says whether it is calm.
+// A byte for each frame says whether it is calm: an array, since there is no heap.
 const CALM_LENGTH: usize = MOST_FRAMES as usize;
 
 // How far a branch has come: the steps made, and whether a contradiction was met. It goes by value beside the
-// two slices: in a struct that holds these, no bound on the steps could be stated of what is known.
+// two slices: a struct of all three was tried, and four goals of the bound on the steps stayed open. So
+// `FewSteps` is asked of the three wherever steps are written. The flag as a number was tried too, and showed no
+// gain: docs/DECISIONS.md has the measure.
 #[derive(Clone, Copy, Debug, PartialEq, Eq)]
 pub struct Progress {
     pub steps: usize,
@@ -23,7 +25,7 @@ pub struct Progress {
 }
 
 // Which frames are calm: where a frame's byte is not 0, the frame has no step to make. Where no room is lent,
-// none is ever noted.
+// none is ever noted. Bytes rather than bools, since of bytes the kit reads and stores any place, room or not.
 #[derive(Drop)]
 struct Calm<'a> {
     noted: &'a mut [u8],
@@ -64,7 +66,8 @@ struct Relation<'a> {
 }
 
 impl Relation<'_> {
-    // Takes what the relation concludes of one of its lines. A value that is known already is no step.
+    // Takes what the relation concludes of one of its lines, which are numbered as knowledge::conclude numbers
+    // them. A value that is known already is no step.
     #[tactic(auto, using(crate::proofs::WorkLaws::lines))]
     fn try_line(self, line: u16, known: &mut [u8], run: &mut [u8], progress: Progress) -> Progress
         requires few { FewSteps (work_of known.old run.old progress) }
@@ -136,7 +139,8 @@ impl Relation<'_> {
     }
 
     // Takes what the relation concludes of its pins' sources, in order. The progress is that after the
-    // output's line, and there were so many steps before it.
+    // output's line, and there were so many steps before it. No fold, here and in the sweeps: nothing is known
+    // behind it of the slices that its closure altered.
     #[tactic(auto, using(crate::proofs::KnownPinLaws::pin_walk, crate::proofs::RisingLaws::rising_more), unfolding(crate::specs::Sweeps::rising))]
     fn try_pins(
         self,
@@ -263,13 +267,16 @@ impl Window<'_> {
     }
 
     // One sweep of what is known, of which no step is written. There is no room to note calm frames, so none
-    // is left out, and nothing is asked of the netlist: that a frame stays calm is shown for sound ones only.
+    // is left out, and nothing is asked of the netlist: that a frame stays calm is shown for sound ones only. The
+    // slices are empty, since a second copy of the sweep made reports slower (docs/DECISIONS.md).
     pub(crate) fn sweep_once(self, known: &mut [u8]) -> Progress
         requires few { FewSteps (work known.old [] 0 false) }
         ensures { work_of known.new [] result ≡ sweep_in self.entry (work known.old [] 0 false) }
     {
-        let mut none = [0u8; 0];
-        let mut calm = Calm { noted: &mut none };
+        let mut no_room = [0u8; 0];
+        let mut calm = Calm {
+            noted: &mut no_room,
+        };
         let mut unwritten = [0u8; 0];
         let start = Progress {
             steps: 0,
@@ -290,11 +297,11 @@ impl Window<'_> {
         requires few { FewSteps (work_of known.old run.old progress) }
         ensures { work_of known.new run.new result ≡ sweeps_in self.entry (self.entry.n * self.entry.w + 1) (work_of known.old run.old progress) }
     {
-        let mut none = [0u8; CALM_LENGTH];
-        let mut calm = Calm { noted: &mut none };
+        let mut room = [0u8; CALM_LENGTH];
+        let mut calm = Calm { noted: &mut room };
         let mut done = progress;
-        let most = self.n as usize * self.w as usize + 1;
-        for _made in 0..most {
+        let most = self.places() + 1;
+        for _ in 0..most {
             let before = done.steps;
             done = self.sweep(&mut calm, known, run, done);
             if done.closed || done.steps == before {

@@ -1,5 +1,5 @@
 -- Laws of what is touched, as 01 says it: whether a node is, by its kind; and what of a frame's bytes counts.
-use mathlib.Core.Bool.{cond, false, not, true, ◌||◌}
+use mathlib.Core.Bool.{not, ◌||◌}
 use mathlib.Core.List.{List}
 use mathlib.Core.Path.{◌≡◌, ap, sym}
 use Prim.Native.Nat.{◌<◌, ◌≤◌, ℕ}
@@ -7,11 +7,11 @@ use lib.Dec.{eqb}
 use lib.ListN.{take}
 use Rattle.trace.proofs.TouchedLaws.{touched-latched}
 use Rattle.trace.proofs.TraceAgreement.{touched_from}
-use Rattle.trace.specs.Trace.{gate_touched, node_touched, one_if, output_untouched, site_touched, touched_list}
+use Rattle.trace.specs.Trace.{node_touched, one_if, output_untouched, site_touched, touched_list}
 use Rattle.values.proofs.ListLaws.{build-same, take-inside}
 use Rattle.gates.proofs.ValueLaws.{unknown_high}
 use Rattle.circuit.specs.Fault.{StuckLines}
-use Rattle.gates.specs.Kind.{is_flip_flop, is_given, is_output}
+use Rattle.gates.specs.Kind.{is_output}
 use Rattle.values.specs.Lists.{at}
 use Rattle.netlist.specs.Netlist.{Net}
 use Rattle.gates.specs.Value.{is_unknown}
@@ -19,19 +19,11 @@ use Rattle.gates.specs.Value.{is_unknown}
 pub touched_unknown : (v : ℕ) → 2 ≤ v → 1 ≡ one_if (is_unknown v)
 touched_unknown v h = sym (ap one_if (unknown_high v h))
 
--- whether a node is touched: a flip-flop, an input, any other node
+-- a flip-flop is touched as it was latched, unless it is faulted
 module _ (net : Net) (D : StuckLines) (v ms : ℕ → ℕ) (n : ℕ) (latched : ℕ → ℕ) where
   pub touched_flip_flop : net.kind n ≡ 2 → site_touched (D.node n) (v n) (latched n) ≡ node_touched net D v latched ms n
   unfolding node_touched
   touched_flip_flop e = rw e
-
-  pub touched-input : is_given (net.kind n) ≡ true → is_flip_flop (net.kind n) ≡ false → site_touched (D.node n) (v n) 0 ≡ node_touched net D v latched ms n
-  unfolding node_touched
-  touched-input e f = ap (site_touched (D.node n) (v n)) (sym (λ i. cond (e i) (cond (f i) (latched n) 0) (gate_touched net D v ms n)))
-
-  pub touched-gate : is_given (net.kind n) ≡ false → site_touched (D.node n) (v n) (gate_touched net D v ms n) ≡ node_touched net D v latched ms n
-  unfolding node_touched
-  touched-gate e = ap (site_touched (D.node n) (v n)) (sym (λ i. cond (e i) (cond (is_flip_flop (net.kind n)) (latched n) 0) (gate_touched net D v ms n)))
 
 -- what was latched counts for the circuit's own nodes alone
 pub list_latched : (net : Net) (D : StuckLines) (v : ℕ → ℕ) (l m : ℕ → ℕ) → ((n : ℕ) → n < net.size → l n ≡ m n) → touched_list net D v l ≡ touched_list net D v m

@@ -1,27 +1,30 @@
 -- Laws of what is touched, as the code works it out: pin by pin from the last one on, and test by test.
-use mathlib.Core.Bool.{Bool, ◌&&◌, cond, false, not, true}
+use mathlib.Core.Bool.{Bool, ◌&&◌, ◌||◌, cond, false, not, true}
 use mathlib.Core.List.{List, [], ◌++◌, ◌∷◌}
-use mathlib.Core.Path.{◌∙◌, ◌≡◌, ap, refl, subst, sym}
-use Prim.Native.Nat.{◌*◌, ◌+◌, ◌-◌, ◌<◌, ◌≤◌, suc, zero, ℕ}
+use mathlib.Core.Path.{◌∙◌, ◌≡◌, ap, refl, sym}
+use Prim.Native.Nat.{◌*◌, ◌+◌, ◌<◌, ◌≤◌, suc, zero, ℕ}
 use native.Mathlib.Nat.{le_of_suc-le-suc, not-suc-le-zero}
 use native.Mathlib.Numerals.{add-one}
 use native.Mathlib.Omega.{arith}
 use lib.Dec.{eqb, leb}
-use lib.ListN.{drop, drop_of_length-le, length, replicate, set, take}
-use lib.Seq.{drop-cons, length-take-le, take_at}
-use borrow.Author.Tests.{le-leb, lt-leb, ne_eqb}
+use lib.ListN.{drop, length, replicate, set, take}
+use lib.Seq.{length-take-le, take_at}
+use borrow.Author.Tests.{eq-eqb, le-leb, lt-leb, ne_eqb}
 use Rattle.trace.proofs.TraceAgreement.{latched_law, touched_from}
-use Rattle.trace.specs.Trace.{cleared, effect_dies, gate_touched, latched_touched, latched_touched_list, latched_untouched, one_if, touched_list, node_touched, output_untouched, pin_touched, pins_touched, site_touched, some_touched, untouched_value, untouched_values}
+use Rattle.trace.specs.Trace.{cleared, effect_dies, gate_touched, latched_touched, latched_touched_list, latched_untouched, one_if, touched_list, node_touched}
+use Rattle.trace.specs.Trace.{output_untouched, pin_touched, pins_touched, site_touched, some_touched, untouched_value, untouched_values}
 use Rattle.trace.specs.Inner.Tracing.{traced, tracing}
-use Rattle.values.proofs.ListLaws.{build-end, build-rest, build_store, Filled, filled_table, length-build}
-use Rattle.gates.proofs.ValueLaws.{known-low}
-use Rattle.circuit.specs.Fault.{StuckLines, lines_in, none_stuck}
+use Rattle.values.proofs.RangeLaws.{any_front}
+use Rattle.values.proofs.ListLaws.{any_none, any_same, build-end, build-rest, build_store, Filled, filled_table, length-build}
+use Rattle.gates.proofs.ValueLaws.{known-low, unknown_high}
+use Rattle.circuit.specs.Fault.{StuckLines, held, lines_in, none_stuck}
+use Rattle.circuit.proofs.FaultLaws.{held_free, held_is, held_low}
+use Rattle.std.specs.Prelude.{None, Some}
 use Rattle.circuit.specs.declared.fault.Circuit.{Circuit}
 use Rattle.knowledge.specs.Inner.Slice.{known_in}
-use Rattle.gates.specs.Kind.{function_of, gate, is_flip_flop, is_given, join_of, unit_of}
-use Rattle.gates.specs.declared.kind.Gate.{Gate}
-use Rattle.simulator.proofs.PinLaws.{by-pin-at, function_more, function_none, length-by-pin}
-use Rattle.values.specs.Lists.{at, build, every, table}
+use Rattle.gates.specs.Kind.{gate, is_flip_flop, is_given}
+use Rattle.simulator.proofs.PinLaws.{by-pin-at, length-by-pin}
+use Rattle.values.specs.Lists.{any, at, build, every, table}
 use Rattle.netlist.specs.Netlist.{Net, length_of, net_of, source_of}
 use Rattle.gates.specs.Value.{is_unknown}
 
@@ -31,6 +34,25 @@ unfolding every
 every_same f g zero h = refl
 every_same f g (suc n) h = let r = every_same f g n (λ i l. h i (omega arith)) in let q = h n (omega arith) in λ i. r i && q i
 
+-- a held line is touched by its own value, any other as it is said
+pub site_held : (u v otherwise h : ℕ) → held u ≡ Some h → one_if (not (eqb v h)) ≡ site_touched u v otherwise
+site_held u v otherwise h e = let low = held_low u h e in rw (held_is u h e, known-low u low) refl
+
+pub site_free : (u v otherwise : ℕ) → held u ≡ None → otherwise ≡ site_touched u v otherwise
+site_free u v otherwise e = rw (unknown_high u (held_free u e)) refl
+
+-- a line is touched where one of them is, whatever the order that they are asked in
+some_listed : (ms : List ℕ) → any (λ k. not (eqb (at ms k) 0)) (length ms) ≡ some_touched ms
+some_listed [] = any_none (λ k. not (eqb (at [] k) 0))
+some_listed (zero ∷ ms) =
+    any_front (λ k. not (eqb (at (zero ∷ ms) k) 0)) (length ms)
+    ∙ ap (λ (b : Bool). not b || any (λ k. not (eqb (at ms k) 0)) (length ms)) (eq-eqb 0 0 refl)
+    ∙ some_listed ms
+some_listed (suc m ∷ ms) =
+    let d : (suc m ≡ 0 → ⊥) = λ e. omega (arith, e) in
+    any_front (λ k. not (eqb (at (suc m ∷ ms) k) 0)) (length ms)
+    ∙ ap (λ (b : Bool). not b || any (λ k. not (eqb (at ms k) 0)) (length ms)) (ne_eqb (suc m) 0 d)
+
 -- a line that is touched is enough
 pub some_at : (ms : List ℕ) (k : ℕ) → k < length ms → (at ms k ≡ 0 → ⊥) → some_touched ms ≡ true
 some_at [] k h d = absurd (not-suc-le-zero h)
@@ -38,46 +60,23 @@ some_at (zero ∷ ms) zero h d = absurd (d refl)
 some_at (zero ∷ ms) (suc k) h d = some_at ms k (le_of_suc-le-suc h) d
 some_at (suc m ∷ ms) k h d = refl
 
--- no line is left; and one line more in front that is not touched, where lines are counted down to 0
-some_none : (ms : List ℕ) (j : ℕ) → j ≡ length ms → some_touched (drop j ms) ≡ false
-some_none ms j e = let h : length ms ≤ j = omega arith in rw (drop_of_length-le ms h)
-
-some_more : (ms : List ℕ) (j : ℕ) → 0 < j → j ≤ length ms → at ms (j - 1) ≡ 0 → some_touched (drop j ms) ≡ false → some_touched (drop (j - 1) ms) ≡ false
-some_more ms j h l z e =
-    let m : j - 1 < length ms = omega arith in
-    let q : suc (j - 1) ≡ j = omega arith in
-    rw (drop-cons ms (j - 1) 0 m, z) (subst (λ (i : ℕ). some_touched (drop i ms) ≡ false) (sym q) e)
-
--- A node's pins, looked at from the last one on: none is left; one more in front; one that is touched.
+-- a node's pins: whether one of them is touched; how many have a value, and which
 module _ (bs : List ℕ) (D : StuckLines) (v ms : ℕ → ℕ) (n : ℕ) where
-  pub pins_none : some_touched (drop (length_of bs n) (pins_touched (net_of bs) D v ms n)) ≡ false
-  pins_none = some_none (pins_touched (net_of bs) D v ms n) _ (sym (length-by-pin bs (pin_touched (net_of bs) D v ms n) n))
-
-  pub pins_more : (j : ℕ) → 0 < j → j ≤ length_of bs n → pin_touched (net_of bs) D v ms n (j - 1) (source_of bs n (j - 1)) ≡ 0
-      → some_touched (drop j (pins_touched (net_of bs) D v ms n)) ≡ false → some_touched (drop (j - 1) (pins_touched (net_of bs) D v ms n)) ≡ false
-  pins_more j h l z e =
+  pub some_pin : any (λ k. not (eqb (pin_touched (net_of bs) D v ms n k (source_of bs n k)) 0)) (length_of bs n) ≡ some_touched (pins_touched (net_of bs) D v ms n)
+  some_pin =
       let f = pin_touched (net_of bs) D v ms n in
-      some_more (pins_touched (net_of bs) D v ms n) j h (omega (arith, l, length-by-pin bs f n)) (by-pin-at bs f n (j - 1) (omega (arith, h, l)) ∙ z) e
+      any_same _ _ (length_of bs n) (λ k h. ap (λ (x : ℕ). not (eqb x 0)) (sym (by-pin-at bs f n k h)))
+      ∙ ap (any (λ k. not (eqb (at (pins_touched (net_of bs) D v ms n) k) 0))) (sym (length-by-pin bs f n))
+      ∙ some_listed (pins_touched (net_of bs) D v ms n)
 
-  pub pins_some : (j : ℕ) → 0 < j → j ≤ length_of bs n → (pin_touched (net_of bs) D v ms n (j - 1) (source_of bs n (j - 1)) ≡ 0 → ⊥)
-      → some_touched (pins_touched (net_of bs) D v ms n) ≡ true
-  pins_some j h l d =
-      let f = pin_touched (net_of bs) D v ms n in
-      some_at (pins_touched (net_of bs) D v ms n) (j - 1) (omega (arith, h, l, length-by-pin bs f n)) (λ z. d (sym (by-pin-at bs f n (j - 1) (omega (arith, h, l))) ∙ z))
+  pub read_count : length (untouched_values (net_of bs) D v ms n) ≡ length_of bs n
+  read_count = length-by-pin bs (λ k m. untouched_value (pin_touched (net_of bs) D v ms n k m) (v m)) n
 
-  -- a gate's function of the untouched pins' values
-  pub values_none : (g : Gate) → unit_of g ≡ function_of g (drop (length_of bs n) (untouched_values (net_of bs) D v ms n))
-  values_none g =
-      let vs = untouched_values (net_of bs) D v ms n in
-      rw (← length-by-pin bs (λ k m. untouched_value (pin_touched (net_of bs) D v ms n k m) (v m)) n) (function_none g vs)
+  pub read_at : (k : ℕ) → k < length_of bs n
+      → at (untouched_values (net_of bs) D v ms n) k ≡ untouched_value (pin_touched (net_of bs) D v ms n k (source_of bs n k)) (v (source_of bs n k))
+  read_at = by-pin-at bs (λ k m. untouched_value (pin_touched (net_of bs) D v ms n k m) (v m)) n
 
-  pub values_more : (g : Gate) (j x w r : ℕ) → r ≡ join_of g x w → 0 < j → j ≤ length_of bs n
-      → x ≡ untouched_value (pin_touched (net_of bs) D v ms n (j - 1) (source_of bs n (j - 1))) (v (source_of bs n (j - 1)))
-      → w ≡ function_of g (drop j (untouched_values (net_of bs) D v ms n)) → r ≡ function_of g (drop (j - 1) (untouched_values (net_of bs) D v ms n))
-  values_more g j x w r q h l p e =
-      let f = λ (k m : ℕ). untouched_value (pin_touched (net_of bs) D v ms n k m) (v m) in
-      let vs = untouched_values (net_of bs) D v ms n in
-      q ∙ (λ i. join_of g ((p ∙ sym (by-pin-at bs f n (j - 1) (omega (arith, h, l)))) i) (e i)) ∙ function_more g vs j h (omega (arith, l, length-by-pin bs f n))
+pub ruleset read_laws = (read_count, read_at)
 
 pub value-touched : (m v : ℕ) → (m ≡ 0 → ⊥) → 2 ≡ untouched_value m v
 value-touched zero v d = absurd (d refl)
@@ -177,7 +176,9 @@ module _ (net : Net) (kn : ℕ → ℕ → ℕ) (r t : ℕ) (D : StuckLines) (l 
   dies-on : (rest : ℕ) → r ≡ suc rest → every (output_untouched net frame_touched) net.size ≡ true → effect_dies net kn r t D l ≡ effect_dies net kn rest (t + 1) none_stuck next_touched
   unfolding effect_dies
   dies-on rest h e =
-      (λ i. effect_dies net kn (h i) t D l) ∙ ap (λ (b : Bool). b && effect_dies net kn rest (suc t) none_stuck next_touched) e ∙ (λ i. effect_dies net kn rest (sym (add-one t) i) none_stuck next_touched)
+      (λ i. effect_dies net kn (h i) t D l)
+      ∙ ap (λ (b : Bool). b && effect_dies net kn rest (suc t) none_stuck next_touched) e
+      ∙ (λ i. effect_dies net kn rest (sym (add-one t) i) none_stuck next_touched)
 
   dies-last : r ≡ 0 → every (output_untouched net frame_touched) net.size ≡ true → every (latched_untouched next_touched) net.size ≡ effect_dies net kn r t D l
   unfolding effect_dies

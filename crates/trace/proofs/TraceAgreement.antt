@@ -5,7 +5,8 @@ use mathlib.Core.Path.{◌∙◌, ◌≡◌, ap, refl, sym}
 use Prim.Native.Nat.{◌+◌, ◌<◌, suc, zero, ℕ}
 use native.Mathlib.Omega.{arith}
 use borrow.Author.Tests.{ne_eqb}
-use Rattle.trace.specs.Trace.{effect_dies, gate_touched, latched_touched, latched_touched_list, latched_untouched, one_if, touched_list, node_touched, output_untouched, pin_touched, pins_touched, site_touched, some_touched, untouched_value}
+use Rattle.trace.specs.Trace.{effect_dies, gate_touched, latched_touched, latched_touched_list, latched_untouched, one_if, touched_list, node_touched}
+use Rattle.trace.specs.Trace.{output_untouched, pin_touched, pins_touched, site_touched, some_touched, untouched_value}
 use Rattle.simulator.proofs.ClockLaws.{Ordered}
 use Rattle.values.proofs.ListLaws.{Below, build_agree, build-same, every_fails, get_or-build, indexed_agree}
 use Rattle.circuit.specs.Fault.{StuckLines, none_stuck}

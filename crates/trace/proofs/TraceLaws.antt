@@ -12,7 +12,8 @@ use lib.ListN.{length}
 use borrow.Author.Tests.{eq-eqb, eqb-true, ne_eqb}
 use Rattle.trace.proofs.TraceAgreement.{latched_law, touched_law}
 use Rattle.trace.proofs.TouchedLaws.{some_at, value-touched}
-use Rattle.trace.specs.Trace.{effect_dies, gate_touched, latched_touched, latched_touched_list, touched_list, node_touched, pin_touched, pins_touched, latched_untouched, one_if, output_untouched, site_touched, some_touched, untouched_value, untouched_values}
+use Rattle.trace.specs.Trace.{effect_dies, gate_touched, latched_touched, latched_touched_list, touched_list, node_touched, pin_touched, pins_touched}
+use Rattle.trace.specs.Trace.{latched_untouched, one_if, output_untouched, site_touched, some_touched, untouched_value, untouched_values}
 use Rattle.values.proofs.BoolLaws.{and_left, and_right, or_right}
 use Rattle.simulator.proofs.ClockLaws.{Ordered}
 use Rattle.gates.proofs.GateLaws.{Controls, EveryPin, Parity, SomePin, Wired, controls_binary, neg-binary, parity_open, wired-value, controlled, controlled-by, uncontrolled-by, unsettled}

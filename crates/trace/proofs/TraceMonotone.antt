@@ -122,12 +122,14 @@ module _ (net : Net) (o : Ordered net) (kn kn' : ℕ → ℕ → ℕ) (more : Mo
   handed_anti zero n h e = refl
   handed_anti (suc r) n h e =
       latched_law net (starting_in net kn D r) (λ m. kn' m (t + r)) (at (touched_at net kn' D t [] r)) n h
-      ∙ latched_anti net o (starting_in net kn D r) (λ m. kn m (t + r)) (λ m. kn' m (t + r)) (λ m p. more m (t + r) p) (at (latched_at net kn D t [] r)) (at (latched_at net kn' D t [] r)) (handed_anti r) n h
+      ∙ latched_anti net o (starting_in net kn D r) (λ m. kn m (t + r)) (λ m. kn' m (t + r)) (λ m p. more m (t + r) p)
+      (at (latched_at net kn D t [] r)) (at (latched_at net kn' D t [] r)) (handed_anti r) n h
       (sym (latched_law net (starting_in net kn D r) (λ m. kn m (t + r)) (at (touched_at net kn D t [] r)) n h) ∙ e)
 
   frame_anti : (r n : ℕ) → n < net.size → at (touched_at net kn D t [] r) n ≡ 0 → at (touched_at net kn' D t [] r) n ≡ 0
   frame_anti r =
-      touched_anti net o (starting_in net kn D r) (λ m. kn m (t + r)) (λ m. kn' m (t + r)) (λ m p. more m (t + r) p) (at (latched_at net kn D t [] r)) (at (latched_at net kn' D t [] r)) (handed_anti r)
+      touched_anti net o (starting_in net kn D r) (λ m. kn m (t + r)) (λ m. kn' m (t + r)) (λ m p. more m (t + r) p)
+      (at (latched_at net kn D t [] r)) (at (latched_at net kn' D t [] r)) (handed_anti r)
 
   -- THE law of the trace: where the effect dies, it dies where more is known
   pub dies_mono : (F : ℕ) → effect_dies net kn F t D [] ≡ true → effect_dies net kn' F t D [] ≡ true

@@ -11,7 +11,8 @@ use borrow.Author.Tests.{eqb-true}
 use Rattle.trace.proofs.TraceAgreement.{latched_law, touched_law}
 use Rattle.knowledge.proofs.HybridRuns.{seen_in, seen_in_agree}
 use Rattle.trace.proofs.TouchedLaws.{no_touch, no_touch_not}
-use Rattle.trace.specs.Trace.{effect_dies, gate_touched, latched_touched, latched_touched_list, latched_untouched, one_if, touched_list, node_touched, output_untouched, pin_touched, pins_touched, site_touched, some_touched, untouched_value, untouched_values}
+use Rattle.trace.specs.Trace.{effect_dies, gate_touched, latched_touched, latched_touched_list, latched_untouched, one_if, touched_list, node_touched}
+use Rattle.trace.specs.Trace.{output_untouched, pin_touched, pins_touched, site_touched, some_touched, untouched_value, untouched_values}
 use Rattle.knowledge.specs.Window.{present_below}
 use Rattle.values.proofs.BoolLaws.{and_left, and_right, implied}
 use Rattle.simulator.proofs.ClockLaws.{Ordered, latched-at, seen_law}
@@ -82,7 +83,8 @@ module _ (net : Net) (o : Ordered net) (D : StuckLines) (kn ga gb latched a b : 
             → ◌≡◌ {A = ℕ} (elim q [ true ↦ one_if (is_unknown (gate (net.kind n) (untouched_values net D kn ms n))) | false ↦ 0 ]) 0
             → gate (net.kind n) (pin_values net none_stuck a n) ≡ gate (net.kind n) (pin_values net D b n)
         go true q e =
-            let w : gate (net.kind n) (untouched_values net D kn ms n) < 2 = known_is (gate (net.kind n) (untouched_values net D kn ms n)) (no_touch (is_unknown (gate (net.kind n) (untouched_values net D kn ms n))) e) in
+            let w : gate (net.kind n) (untouched_values net D kn ms n) < 2 =
+            known_is (gate (net.kind n) (untouched_values net D kn ms n)) (no_touch (is_unknown (gate (net.kind n) (untouched_values net D kn ms n))) e) in
             sym (gate_mono (net.kind n) refines_a w) ∙ gate_mono (net.kind n) refines_b w
         go false q e = ap (gate (net.kind n)) (pins-same q)
 

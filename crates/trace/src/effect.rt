@@ -1,96 +1,30 @@
 // The effect trace: which lines may show the fault's effect, frame by frame from c on. What is touched
-// in one frame lies in a slice with a byte for each node: 1 for a touched node and 0 for another. Such a
-// byte is handed on as it stands, so what a pin or a node has is a byte too.
+// in one frame lies in a slice with a byte for each node: 1 for a touched node and 0 for another. The slice is
+// the caller's, and the definition hands on whatever number lies there, so what a node has is a byte and no bool.
 ghost use Rattle.std.specs.Prelude.{◌≡◌, ◌++◌, [], ◌*◌, ◌+◌, ◌≤◌, drop, length, replicate, take};
-ghost use Rattle.circuit.specs.Fault.{lines_of, stuck_value};
-ghost use Rattle.gates.specs.Kind.{gate};
+ghost use Rattle.circuit.specs.Fault.{lines_of};
 ghost use Rattle.values.specs.Lists.{at, every};
-ghost use Rattle.netlist.specs.Netlist.{kind_of, net_of, source_of};
+ghost use Rattle.netlist.specs.Netlist.{net_of};
 ghost use Rattle.knowledge.specs.Inner.Slice.{known_in};
 ghost use Rattle.trace.specs.Trace.{effect_dies, gate_touched, latched_touched, latched_touched_list, latched_untouched, touched_list, node_touched};
-ghost use Rattle.trace.specs.Trace.{one_if, output_untouched, pin_touched, pins_touched, site_touched, some_touched, untouched_value, untouched_values};
+ghost use Rattle.trace.specs.Trace.{one_if, output_untouched};
 ghost use Rattle.trace.specs.Inner.Tracing.{frame_known, frame_lines, frame_net, traced, tracing, window_known, window_net};
 
+use crate::frame::Frame;
+use crate::pins::site_touched;
 use circuit::{Circuit, Fault};
 use gates::{Kind, UNKNOWN};
 use knowledge::place_of;
-
-// A faulted line is touched unless its value is known to be the stuck one; any other as it is said.
-fn site_touched(stuck: Option<u8>, value: u8, otherwise: u8) -> u8
-    ensures { result ≡ site_touched (stuck_value stuck) value otherwise }
-{
-    match stuck {
-        Some(stuck) if stuck < UNKNOWN => (value != stuck) as u8,
-        _ => otherwise,
-    }
-}
-
-// One frame: the circuit in it, and what is known there of each node.
-#[derive(Clone, Copy)]
-struct Frame<'a> {
-    netlist: &'a [u8],
-    circuit: Circuit,
-    values: &'a [u8],
-}
+use simulator::gate_of;
 
 impl Frame<'_> {
-    // A pin is touched if its source is, and a faulted one by the rule for faulted lines.
-    #[tactic(auto, unfolding(crate::specs::Trace::pin_touched))]
-    fn pin_touched(&self, touched: &[u8], node: u16, pin: u16, source: u16) -> u8
-        ensures { result ≡ pin_touched (frame_net self.now) (frame_lines self.now) (frame_known self.now) (at touched.now) node pin source }
-    {
-        let stuck = self.circuit.stuck_pin(node, pin);
-        let value = values::byte_at(self.values, source as usize);
-        site_touched(stuck, value, values::byte_at(touched, source as usize))
-    }
-
-    // Whether one of a node's pins is touched. A call for each node took a tenth more instructions.
-    #[inline]
-    #[tactic(auto, using(crate::proofs::TouchedLaws::pins_none, crate::proofs::TouchedLaws::pins_more, crate::proofs::TouchedLaws::pins_some))]
-    fn some_pin_touched(&self, touched: &[u8], node: u16) -> bool
-        ensures { result ≡ some_touched (pins_touched (frame_net self.now) (frame_lines self.now) (frame_known self.now) (at touched.now) node) }
-    {
-        for pin in (0..netlist::length_of(self.netlist, node)).rev() {
-            let source = netlist::source_of(self.netlist, node, pin);
-            if self.pin_touched(touched, node, pin, source) != 0 {
-                return true;
-            }
-        }
-        false
-    }
-
-    // What a pin is known to read if it is untouched; a touched one is unknown.
-    fn untouched_value(&self, touched: &[u8], node: u16, pin: u16, source: u16) -> u8
-        ensures { result ≡ untouched_value (pin_touched (frame_net self.now) (frame_lines self.now) (frame_known self.now) (at touched.now) node pin source) (frame_known self.now source) }
-    {
-        if self.pin_touched(touched, node, pin, source) != 0 {
-            return UNKNOWN;
-        }
-        values::byte_at(self.values, source as usize)
-    }
-
-    // What a node makes of its untouched pins.
-    #[tactic(auto, using(crate::proofs::TouchedLaws::values_none, crate::proofs::TouchedLaws::values_more), unfolding(gates::specs::Kind::gate))]
-    fn untouched_gate(&self, touched: &[u8], node: u16) -> u8
-        ensures { result ≡ gate (kind_of self.now.netlist.now node) (untouched_values (frame_net self.now) (frame_lines self.now) (frame_known self.now) (at touched.now) node) }
-    {
-        let rule = netlist::rule_of(self.netlist, node);
-        let gate = rule.gate;
-        let mut value = gates::unit_of(gate);
-        for pin in (0..netlist::length_of(self.netlist, node)).rev() {
-            let source = netlist::source_of(self.netlist, node, pin);
-            let read = self.untouched_value(touched, node, pin, source);
-            value = gates::join_of(gate, read, value);
-        }
-        gates::inverted_if(rule.inverted, value)
-    }
-
     // A node with a touched pin is touched unless its untouched pins settle its value.
-    #[tactic(auto, using(crate::proofs::TouchedLaws::gate_untouched, crate::proofs::TouchedLaws::gate_by), unfolding(netlist::specs::Netlist::net_of))]
+    #[tactic(auto, using(crate::proofs::TouchedLaws::gate_untouched, crate::proofs::TouchedLaws::gate_by), unfolding(netlist::specs::Netlist::net_of, gates::specs::Kind::gate))]
     fn gate_touched(&self, touched: &[u8], node: u16) -> bool
         ensures { one_if result ≡ gate_touched (frame_net self.now) (frame_lines self.now) (frame_known self.now) (at touched.now) node }
     {
-        self.some_pin_touched(touched, node) && UNKNOWN <= self.untouched_gate(touched, node)
+        let pins = self.pins(touched, node);
+        pins.some_touched() && UNKNOWN <= gate_of(netlist::rule_of(self.netlist, node), &pins)
     }
 
     // Whether a node is touched, where its own place holds what its flip-flop latched, and the places below
@@ -112,7 +46,9 @@ impl Frame<'_> {
         site_touched(stuck, value, touched_by_pins as u8)
     }
 
-    // Puts into each node's place whether it is touched, by rising node number.
+    // Puts into each node's place whether it is touched, by rising node number. A node reads what has been
+    // written below it, so the loop goes by the number. A loop of its own, as the next, beside the simulator's: a
+    // public function that takes what is put as a closure would ask something of its callers.
     #[tactic(auto, using(crate::proofs::TouchedLaws::touched_turn, crate::proofs::TouchedLaws::touched_end), unfolding(netlist::specs::Netlist::net_of, values::specs::Lists::build))]
     fn touch_nodes(&self, touched: &mut [u8])
         requires { (frame_net self.now).size ≡ length touched.old }
@@ -146,7 +82,7 @@ impl Frame<'_> {
         ensures { one_if result ≡ latched_touched (frame_net self.now) (frame_lines self.now) (frame_known self.now) (at touched.now) node }
     {
         netlist::is_of_kind(self.netlist, node, Kind::FlipFlop)
-            && self.some_pin_touched(touched, node)
+            && self.pins(touched, node).some_touched()
     }
 
     // Puts the flip-flops touched in the next frame into the slice, which holds what is touched in this one.
@@ -158,6 +94,7 @@ impl Frame<'_> {
         ensures { touched.new ≡ latched_touched_list (frame_net self.now) (frame_lines self.now) (frame_known self.now) (at touched.old) }
     {
         let n = netlist::node_count(self.netlist);
+        // no zip with next.iter_mut(): it lends the slice out, which the loop's invariant cannot name then
         for node in 0..n {
             next[node as usize] = self.latched_touched(touched, node) as u8;
         }
@@ -174,7 +111,8 @@ impl Frame<'_> {
 }
 
 // A window: the fault whose effect may start at frame c, with f frames behind that one, and what is known,
-// frame by frame, a byte for each node.
+// frame by frame, a byte for each node. A window of its own: it asks nothing of the netlist, where the
+// checker's knows that its netlist is sound.
 #[derive(Clone, Copy)]
 struct Window<'a> {
     netlist: &'a [u8],
@@ -221,6 +159,7 @@ impl<'a> Window<'a> {
             frame.latch_touched(now, next);
             circuit = Circuit::Good;
         }
+        // apart from the loop: this frame's flip-flop pins are asked, and no frame follows it
         let frame = self.frame(circuit, last);
         frame.touch_nodes(now);
         frame.outputs_untouched(now) && frame.pins_untouched(now)
@@ -245,7 +184,8 @@ impl<'a> Window<'a> {
 // the last frame, c + f. What is known lies in bytes, frame by frame, one for each node; a place past
 // the end counts as known to be 0, which no caller may lean on: it says nothing of the circuit, and
 // a window has a byte for each of its places. The last slice has to have a byte for each
-// node and each frame from c on; a shorter one stays as it is, and nothing is said to die.
+// node and each frame from c on; a shorter one stays as it is and is answered false, since the definition says
+// that nothing is shown to die then. Netlist, fault, c and f go side by side as for `knowledge::conclude`.
 #[tactic(auto, using(crate::proofs::TouchedLaws::tracing_short, crate::proofs::TouchedLaws::tracing_done), unfolding(netlist::specs::Netlist::net_of))]
 pub fn effect_dies(
     netlist: &[u8],

@@ -2,5 +2,7 @@
 #![tactic(auto)]
 
 mod effect;
+mod frame;
+mod pins;
 
 pub use effect::effect_dies;

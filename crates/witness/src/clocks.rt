@@ -24,7 +24,8 @@ fn start_value(netlist: &[u8], latched: &[u8], values: &[u8], node: u16) -> u8
     }
 }
 
-// Puts the latched values of the first n nodes into the places of flip-flops.
+// Puts the latched values of the first n nodes into the places of flip-flops. A loop of its own beside the
+// simulator's: a public function that takes what is put as a closure would ask something of its callers.
 #[tactic(auto, using(values::proofs::ListLaws::rewritten_more), unfolding(values::specs::Inner::Rewriting::rewritten, crate::specs::Inner::Clocks::started))]
 fn start_clock(netlist: &[u8], n: u16, latched: &[u8], values: &mut [u8])
     ensures { values.new ≡ started (net_of netlist.now) latched.now n values.old }
@@ -64,21 +65,21 @@ fn outputs_differ(netlist: &[u8], faulty: &[u8], good: &[u8]) -> bool
     (0..n).any(|node| output_differs(netlist, faulty, good, node))
 }
 
-// Both circuits take a clock with the inputs that stand in the first slice: the faulty one in the
-// first two slices, the good one in the others. Says whether an output differs.
+// Both circuits take a clock with the inputs that stand in the first values, the faulty circuit's; they are
+// copied to the good one's. Says whether an output differs.
 #[tactic(auto, using(crate::proofs::WitnessLaws::both_by), unfolding(circuit::specs::Fault::lines_in))]
 pub fn step_both(
     netlist: &[u8],
     fault: Fault,
-    first: &mut [u8],
-    second: &mut [u8],
-    third: &mut [u8],
-    fourth: &mut [u8],
+    values: &mut [u8],
+    latched: &mut [u8],
+    good_values: &mut [u8],
+    good_latched: &mut [u8],
 ) -> bool
-    ensures { compared result (holding first.new second.new) (holding third.new fourth.new) ≡ both_step (net_of netlist.now) (lines_of fault) (holding first.old second.old) (holding third.old fourth.old) }
+    ensures { compared result (holding values.new latched.new) (holding good_values.new good_latched.new) ≡ both_step (net_of netlist.now) (lines_of fault) (holding values.old latched.old) (holding good_values.old good_latched.old) }
 {
-    copy(first, third);
-    run_clock(netlist, Circuit::Faulty(fault), second, first);
-    run_clock(netlist, Circuit::Good, fourth, third);
-    outputs_differ(netlist, first, third)
+    copy(values, good_values);
+    run_clock(netlist, Circuit::Faulty(fault), latched, values);
+    run_clock(netlist, Circuit::Good, good_latched, good_values);
+    outputs_differ(netlist, values, good_values)
 }

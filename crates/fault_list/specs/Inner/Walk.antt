@@ -1,6 +1,6 @@
 -- The walk through the fault list, as `fault_after` makes it for any bytes and any fault. For a fault that a sound netlist has, the next
 -- one is that of the list (`next-sound` in WalkLaws).
-use Rattle.std.specs.Prelude.{cond, ℕ, ltb, take}
+use Rattle.std.specs.Prelude.{cond, None, Option, Some, ℕ, ltb, take}
 use Rattle.circuit.specs.Fault.{site_byte}
 use Rattle.netlist.specs.Netlist.{Net}
 use Rattle.circuit.specs.declared.fault.Fault.{Fault}
@@ -18,3 +18,7 @@ named net = record { size = net.size; kind = net.kind; pins = λ n. take pin_num
 -- the fault that follows; one of a node that the circuit does not have is followed by itself
 unfoldable pub next_fault : Net → Fault → Fault
 next_fault net f = cond (ltb f.node net.size) (fault_after (named net) f) f
+
+-- a fault of a node that the circuit has, and none for any other
+abbrev pub listed : Net → Fault → Option Fault
+listed net f = cond (ltb f.node net.size) (Some f) None

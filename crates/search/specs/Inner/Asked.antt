@@ -5,8 +5,6 @@ use Rattle.netlist.specs.Netlist.{net_of}
 use Rattle.search.specs.FirstSplit.{Within, first_split}
 use Rattle.search.specs.Inner.Notes.{NotedStayOpen}
 use Rattle.search.specs.declared.question.Question.{Question}
-use Rattle.search.specs.declared.trial.Held.{Held}
-use Rattle.search.specs.declared.work.Work.{Work}
 use Rattle.splits.specs.declared.split.Split.{Split}
 use Rattle.sweeps.specs.Splits.{split_closes}
 
@@ -33,11 +31,3 @@ OfWindow q c known spare = (length known ≡ places q c) × (length spare ≡ pl
 -- what is noted stays open
 abbrev pub StayOpen : Question → List ℕ → Type 0
 StayOpen q noted = NotedStayOpen (net_of q.netlist.now) q.fault q.f noted
-
--- what each step finds and leaves
-abbrev pub Ready : Question → Work → Type 0
-Ready q w = OfWindow q q.b w.known.now w.spare.now × StayOpen q w.noted.now
-
--- room for a byte of each node
-abbrev pub Fitting : Question → Held → Type 0
-Fitting q h = (length h.values.now ≡ q.n) × (length h.latched.now ≡ q.n)

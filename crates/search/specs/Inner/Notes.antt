@@ -13,6 +13,6 @@ unfoldable pub Noted : List ℕ → ℕ → List ℕ → List ℕ → ℕ → Ty
 Noted known c before after place = (at after place ≡ at before place) ⊎ ((note_at after place ≡ c + 1) × (at known place < 2))
 
 -- what the notes say: a split whose place has the note of its c does not close
-unfoldable pub NotedStayOpen : Net → Fault → ℕ → List ℕ → Type 0
+abbrev pub NotedStayOpen : Net → Fault → ℕ → List ℕ → Type 0
 NotedStayOpen net f F noted =
     (s : Split) → s.frame < s.c + F + 1 → s.node < net.size → note_at noted (s.frame * net.size + s.node) ≡ s.c + 1 → split_closes net f F s ≡ false

@@ -1,12 +1,20 @@
 // Whether the fault's effect lives in a set of values: along the fan-out lists, with a byte of flags for
-// each node.
+// each node. The rules are the trace's, said once more: the trace asks every node of every frame, while this
+// follows the touched ones to their readers, and nothing rests on what it says.
+//
+// Three loops are no `any` and no `all`. That of `gate_touched` goes on behind a touched pin, for one that
+// stops the effect; that of `turn_over` tells and clears at once; that of `lives_on` ends early with either
+// answer.
 use crate::quick::fan::Fan;
 use crate::quick::set::ValueSet;
 use crate::quick::window::Window;
 use crate::trial::NODES_AT_MOST;
-use circuit::{Circuit, Site};
-use gates::{Gate, Kind, UNKNOWN};
+use circuit::{Circuit, Fault, Site};
+use gates::Kind;
 use values::{byte_at, store};
+
+// The flags of a node stand in one byte, so that they are turned over and cleared at once: four bools would
+// be four arrays, or a struct whose fields are cleared one by one.
 
 // The node is touched.
 const TOUCHED: u8 = 1;
@@ -37,14 +45,6 @@ struct Frame {
     row: u32,
 }
 
-// The value of an untouched pin that stops the effect, where one does.
-fn blocking_value(gate: Gate) -> Option<u8> {
-    match gate {
-        Gate::Wire | Gate::Xor => None,
-        _ => Some(gates::controlling_value(gate)),
-    }
-}
-
 impl Effect<'_> {
     fn is_of_kind(&self, node: u16, kind: Kind) -> bool {
         netlist::is_of_kind(self.netlist, node, kind)
@@ -59,13 +59,10 @@ impl Effect<'_> {
         byte_at(&self.flags, node as usize) & flag != 0
     }
 
-    fn put_flags(&mut self, node: u16, flags: u8) {
-        store(&mut self.flags, node as usize, flags);
-    }
-
     fn set_flag(&mut self, node: u16, flag: u8) {
-        let set = byte_at(&self.flags, node as usize);
-        self.put_flags(node, set | flag);
+        if let Some(flags) = self.flags.get_mut(node as usize) {
+            *flags |= flag;
+        }
     }
 
     // A node is touched: so may be those that read it.
@@ -80,16 +77,17 @@ impl Effect<'_> {
 
     // Whether a pin is touched, whose source has the value.
     fn pin_touched(&self, stuck: Option<u8>, value: u8, source: u16) -> bool {
-        match stuck {
-            Some(stuck) if stuck < UNKNOWN => value != stuck,
-            _ => self.has_flag(source, TOUCHED),
+        match circuit::held(stuck) {
+            Some(held) => value != held,
+            None => self.has_flag(source, TOUCHED),
         }
     }
 
-    // Whether a pin of a gate is touched, and no untouched one stops the effect.
+    // Whether a pin of a gate is touched, and no untouched one stops the effect, which one with the controlling
+    // value does.
     fn gate_touched(&self, frame: Frame, node: u16) -> bool {
         let place = netlist::pins_place(self.netlist, node);
-        let blocking = blocking_value(netlist::rule_of(self.netlist, node).gate);
+        let blocking = gates::controlling_value(netlist::rule_of(self.netlist, node).gate);
         let mut some = false;
         for pin in 0..netlist::length_of(self.netlist, node) {
             let source = netlist::source_at(self.netlist, place, pin);
@@ -104,56 +102,60 @@ impl Effect<'_> {
         some
     }
 
+    // Whether a node is touched. Most have no flag, and are asked for nothing else.
     fn node_touched(&self, frame: Frame, node: u16) -> bool {
-        match frame.circuit.stuck_node(node) {
-            Some(stuck) if stuck < UNKNOWN => self.value_in(frame, node) != stuck,
-            _ if self.has_flag(node, HANDED) => true,
-            _ => self.has_flag(node, PENDING) && self.gate_touched(frame, node),
+        if !self.has_flag(node, HANDED | PENDING) {
+            return false;
         }
+        match circuit::held(frame.circuit.stuck_node(node)) {
+            Some(held) => self.value_in(frame, node) != held,
+            None => self.has_flag(node, HANDED) || self.gate_touched(frame, node),
+        }
+    }
+
+    // Touches a node, if it is to be. Says whether it is an output that is touched.
+    fn touch_node(&mut self, frame: Frame, node: u16) -> bool {
+        if !self.node_touched(frame, node) {
+            return false;
+        }
+        self.touch(node);
+        self.is_of_kind(node, Kind::Output)
     }
 
     // Touches the nodes of a frame, up to an output. Says whether one is touched.
     fn touch_frame(&mut self, frame: Frame) -> bool {
-        for node in 0..self.window.n {
-            if self.node_touched(frame, node) {
-                self.touch(node);
-                if self.is_of_kind(node, Kind::Output) {
-                    return true;
-                }
-            }
-        }
-        false
+        let n = self.window.n;
+        (0..n).any(|node| self.touch_node(frame, node))
     }
 
     // Goes on to the next frame. Says whether a flip-flop is touched there.
     fn turn_over(&mut self) -> bool {
+        let n = self.window.n as usize;
         let mut some = false;
-        for node in 0..self.window.n {
-            let next = self.has_flag(node, NEXT);
-            self.put_flags(node, if next { HANDED } else { 0 });
-            some = some || next;
+        for flags in self.flags.iter_mut().take(n) {
+            let next = *flags & NEXT != 0;
+            *flags = if next { HANDED } else { 0 };
+            some |= next;
         }
         some
     }
 
-    // The faulted node may be touched through its pin; a flip-flop only a frame later, by the rule below.
+    // The faulted node may be touched; through a flip-flop's pin only a frame later, by the rule below.
     fn touch_site(&mut self) {
-        let node = self.window.fault.node;
-        if !self.is_of_kind(node, Kind::FlipFlop) {
+        let Fault { node, site, .. } = self.window.fault;
+        if site == Site::Whole || !self.is_of_kind(node, Kind::FlipFlop) {
             self.set_flag(node, PENDING);
         }
     }
 
     // A faulted pin of a flip-flop is touched by its own rule.
     fn latch_site(&mut self, frame: Frame) {
-        let fault = self.window.fault;
-        let node = fault.node;
-        let site = fault.site;
+        let Fault { node, site, stuck } = self.window.fault;
         if let Site::Pin(pin) = site {
             if self.is_of_kind(node, Kind::FlipFlop) {
                 let source = netlist::source_of(self.netlist, node, pin as u16);
-                let same = self.value_in(frame, source) == fault.stuck;
-                self.put_flags(node, if same { 0 } else { NEXT });
+                let same = self.value_in(frame, source) == stuck;
+                store(&mut self.flags, node as usize, if same { 0 } else { NEXT });
             }
         }
     }

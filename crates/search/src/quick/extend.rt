@@ -4,7 +4,7 @@ use crate::quick::set::ValueSet;
 use crate::quick::window::Window;
 use circuit::{Fault, Site};
 use gates::UNKNOWN;
-use splits::{NOTE_UNIT, Split};
+use splits::Split;
 use values::byte_at;
 
 // How many places are added before the effect is looked at.
@@ -14,21 +14,11 @@ impl ValueSet<'_, '_> {
     // Whether a value is wanted at a place: it is unknown, and nothing is noted of it for c.
     fn is_wanted(&self, place: usize) -> bool {
         self.value_at(place) >= UNKNOWN
-            && (byte_at(self.noted, place) / NOTE_UNIT) as u16 != self.window.c as u16 + 1
+            && splits::noted_c(byte_at(self.noted, place)) != Some(self.window.c)
     }
 
-    // Adds values at the places of a block: 0, or 1 where 0 does not fit. A value that is kept is never taken
-    // back, so that each block has the whole trail.
-    fn add_block(&mut self, from: usize, end: usize) {
-        self.trail.clear();
-        for place in from..end {
-            if self.is_wanted(place) && !self.add_value(place, 0) {
-                self.add_value(place, 1);
-            }
-        }
-    }
-
-    // Adds a value if the effect lives with it. Says whether it does.
+    // Adds a value if the effect lives with it. Says whether it does. A value that is kept is never taken back,
+    // so that each has the whole trail.
     fn add_living(&mut self, place: usize, value: u8) -> bool {
         self.trail.clear();
         if !self.add_value(place, value) {
@@ -41,23 +31,34 @@ impl ValueSet<'_, '_> {
         false
     }
 
-    // Adds values at the places of a block one by one, each if the effect lives with it.
-    fn add_singly(&mut self, from: usize, end: usize) {
+    // Adds a value, if the effect lives with it where it is added singly. Says whether it was added.
+    fn add<const SINGLY: bool>(&mut self, place: usize, value: u8) -> bool {
+        if SINGLY {
+            self.add_living(place, value)
+        } else {
+            self.add_value(place, value)
+        }
+    }
+
+    // Adds values at the places of a block: 0, or 1 where 0 does not fit.
+    fn add_block<const SINGLY: bool>(&mut self, from: usize, end: usize) {
         for place in from..end {
-            if self.is_wanted(place) && !self.add_living(place, 0) {
-                self.add_living(place, 1);
+            if self.is_wanted(place) && !self.add::<SINGLY>(place, 0) {
+                self.add::<SINGLY>(place, 1);
             }
         }
     }
 
-    // Adds values at the places of a block, all at once if the effect lives with them, else one by one.
+    // Adds values at the places of a block, all at once if the effect lives with them, else one by one. Each
+    // block has the whole trail.
     fn extend_block(&mut self, from: usize, end: usize) {
-        self.add_block(from, end);
+        self.trail.clear();
+        self.add_block::<false>(from, end);
         if self.trail.is_empty() || self.effect_lives() {
             return;
         }
         self.trail.undo(0, self.known);
-        self.add_singly(from, end);
+        self.add_block::<true>(from, end);
     }
 
     // Adds values from a place on, up to an end.
@@ -117,7 +118,7 @@ impl ValueSet<'_, '_> {
         if self.side_open(line, gates::negation(fault.stuck)) {
             self.extend_all(guess_frame(c));
         } else {
-            values::fill(self.known, UNKNOWN);
+            self.known.fill(UNKNOWN);
         }
     }
 }
@@ -137,7 +138,8 @@ fn guess_frame(c: u8) -> u8 {
 }
 
 // Looks for an open set that has a value of the split, and values of the places behind it of which
-// nothing is noted. Says whether there seems to be one.
+// nothing is noted. Says whether there seems to be one. The set is written out here and in `guess`: a
+// constructor that lends at several lifetimes had no proof.
 pub(crate) fn propose(
     netlist: &[u8],
     window: Window,

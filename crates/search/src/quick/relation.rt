@@ -1,17 +1,17 @@
 // What the relation of a node at a frame concludes, with few looks at its pins.
 use crate::quick::set::ValueSet;
+use crate::quick::window::Window;
 use circuit::Circuit;
 use gates::{Gate, UNKNOWN, inverted_if, join_of, negation};
 
 // The relation of a node at a frame. Place: where its pins stand in the netlist; circuit: the one that
-// they read in; stuck: whether one of them may be stuck there; row: where the values of their frame begin;
-// out: where the node's own value stands.
+// they read in, or the good one where none of them may be stuck; row: where the values of their frame begin;
+// out: where the node's own value stands. Not the relation of the sweeps, which knows facts and is proved.
 #[derive(Clone, Copy)]
 struct Relation {
     node: u16,
     place: u32,
     circuit: Circuit,
-    stuck: bool,
     row: u32,
     out: usize,
     inverted: bool,
@@ -30,12 +30,16 @@ enum Pins {
 impl Relation {
     fn of(set: &ValueSet, node: u16, frame: u8, inverted: bool) -> Relation {
         let window = set.window;
+        let Window { fault, c, .. } = window;
         let pins_at = knowledge::pin_frame(set.netlist, node, frame);
         Relation {
             node,
             place: netlist::pins_place(set.netlist, node),
-            circuit: window.circuit_in(pins_at),
-            stuck: window.fault.node == node && pins_at < window.c,
+            circuit: if fault.node == node {
+                knowledge::circuit_in(fault, c, pins_at)
+            } else {
+                Circuit::Good
+            },
             row: window.row_of(pins_at),
             out: window.place_of(node, frame),
             inverted,
@@ -53,14 +57,15 @@ impl Relation {
         self.row as usize + source as usize
     }
 
-    // What a pin reads. Most relations have no stuck pin, and are asked for none.
+    // Whether one of the pins may be stuck.
+    fn may_be_stuck(self) -> bool {
+        self.circuit != Circuit::Good
+    }
+
+    // What a pin reads.
     fn read_pin(self, pin: u16, set: &ValueSet) -> u8 {
-        if self.stuck {
-            if let Some(stuck) = self.circuit.stuck_pin(self.node, pin) {
-                return stuck;
-            }
-        }
-        set.value_at(self.source_place(pin, set))
+        let stuck = self.circuit.stuck_pin(self.node, pin);
+        stuck.unwrap_or_else(|| set.value_at(self.source_place(pin, set)))
     }
 
     // The node's value before its inversion.
@@ -74,7 +79,8 @@ impl Relation {
         set.take_value(place, value);
     }
 
-    // The node has the value, but for its inversion.
+    // The node has the value, but for its inversion. Inlined, so that the relation need not be stored for a call.
+    #[inline(always)]
     fn take_output(self, value: u8, set: &mut ValueSet) {
         let value = inverted_if(self.inverted, value);
         set.take_value(self.out, value);
@@ -96,7 +102,7 @@ impl Relation {
                     Pins::Known => Pins::OneUnknown(pin),
                     _ => Pins::MoreUnknown,
                 };
-                if !self.stuck && matches!(pins, Pins::MoreUnknown) {
+                if !self.may_be_stuck() && matches!(pins, Pins::MoreUnknown) {
                     return pins;
                 }
             }
@@ -134,11 +140,12 @@ impl Relation {
     // An AND or OR. A source that has got the controlling value settles it, and no pin need be looked at,
     // unless the one that it feeds may be stuck.
     fn use_gate(self, controlling: u8, got: Option<u8>, set: &mut ValueSet) {
-        if got == Some(controlling) && !self.stuck {
-            self.take_output(controlling, set);
-            return;
-        }
-        match self.look_at_pins(controlling, set) {
+        let pins = if got == Some(controlling) && !self.may_be_stuck() {
+            Pins::Settled
+        } else {
+            self.look_at_pins(controlling, set)
+        };
+        match pins {
             Pins::Settled => self.take_output(controlling, set),
             Pins::Known => self.take_output(negation(controlling), set),
             pins => self.use_output(pins, controlling, set),
@@ -189,11 +196,10 @@ impl ValueSet<'_, '_> {
         }
         let rule = netlist::rule_of(self.netlist, node);
         let relation = Relation::of(self, node, frame, rule.inverted);
-        let gate = rule.gate;
-        match gate {
-            Gate::Wire => relation.use_wire(self),
-            Gate::Xor => relation.use_xor(self),
-            _ => relation.use_gate(gates::controlling_value(gate), got, self),
+        match gates::controlling_value(rule.gate) {
+            Some(controlling) => relation.use_gate(controlling, got, self),
+            None if rule.gate == Gate::Xor => relation.use_xor(self),
+            None => relation.use_wire(self),
         }
     }
 }

@@ -10,11 +10,16 @@ pub(crate) struct Scratch {
 }
 
 impl Scratch {
-    // For a circuit of n nodes.
-    pub(crate) fn new(netlist: &[u8], n: u16) -> Scratch {
+    // For no circuit yet.
+    pub(crate) fn new() -> Scratch {
         Scratch {
-            fan: Fan::new(netlist, n),
+            fan: Fan::new(),
             trail: Trail::new(),
         }
+    }
+
+    // For a circuit of n nodes. It is filled where it stands, since it is too large to be handed on.
+    pub(crate) fn read(&mut self, netlist: &[u8], n: u16) {
+        self.fan.enter_all(netlist, n);
     }
 }

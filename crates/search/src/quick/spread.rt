@@ -31,18 +31,16 @@ impl ValueSet<'_, '_> {
 
     // Uses the relations that a place takes part in: its own, and its readers'.
     fn use_around(&mut self, place: u16) {
-        let n = self.window.n;
-        if n == 0 {
+        let Some((node, frame)) = self.window.at(place) else {
             return;
-        }
-        let frame = ((place / n) % 256) as u8;
-        let node = place % n;
+        };
         let got = self.value_at(place as usize);
         self.use_relation(node, frame, None);
         self.use_readers(node, frame, got);
     }
 
-    // Spreads the values that the trail has from a number on, until nothing new follows or all stops.
+    // Spreads the values that the trail has from a number on, until nothing new follows or all stops. By the
+    // number, since the trail grows while it is gone over.
     fn spread(&mut self, from: usize) {
         for number in from..PLACES {
             let Some(place) = self.trail.spreading(number) else {
@@ -52,7 +50,8 @@ impl ValueSet<'_, '_> {
         }
     }
 
-    // Enters what is known at the start into the trail.
+    // Enters what is known at the start into the trail. By an index: with an iterator over what is known, the
+    // borrow checker had no rule for the trail beside it.
     fn enter_start(&mut self) {
         self.trail.clear();
         for place in 0..self.known.len() {

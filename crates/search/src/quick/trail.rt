@@ -6,7 +6,7 @@ use values::{byte_at, store};
 pub(crate) const PLACES: usize = 16384;
 
 // The places up to the end, and whether spreading has stopped, because of a contradiction or because the
-// trail is full.
+// trail is full. An array and its end, since there is no heap; of 16 bits each, since no window has more places.
 #[derive(Drop)]
 pub(crate) struct Trail {
     places: [u16; PLACES],
@@ -51,13 +51,12 @@ impl Trail {
 
     // Puts a place at the end. Without room all stops.
     pub(crate) fn append(&mut self, place: usize) -> bool {
-        let end = self.end;
-        if end >= PLACES {
+        let (Some(last), Ok(place)) = (self.places.get_mut(self.end), u16::try_from(place)) else {
             self.stopped = true;
             return false;
-        }
-        self.places[end] = (place % 65536) as u16;
-        self.end = end + 1;
+        };
+        *last = place;
+        self.end += 1;
         true
     }
 
@@ -84,8 +83,7 @@ impl Trail {
     // Takes back the values that were entered from a number on: the trail then ends there, and values may
     // spread again.
     pub(crate) fn undo(&mut self, from: usize, known: &mut [u8]) {
-        for number in (from..self.end).rev() {
-            let place = self.places.get(number).copied().unwrap_or(0);
+        for &place in self.places.get(from..self.end).unwrap_or(&[]) {
             store(known, place as usize, UNKNOWN);
         }
         self.end = from;

@@ -1,16 +1,28 @@
 -- The bytes of notes.
-use Rattle.std.specs.Prelude.{cond, List, ◌%◌, ◌*◌, ◌+◌, ◌/◌, ℕ, ltb, length}
+use Rattle.std.specs.Prelude.{cond, List, Option, None, Some, ◌%◌, ◌*◌, ◌+◌, ◌/◌, ℕ, ltb, length}
 use Rattle.values.specs.Lists.{at}
 use Rattle.values.specs.Inner.Rewriting.{rewritten}
 use Rattle.knowledge.specs.Window.{most_frames}
 
 -- The notes hold two things in a byte: a guessed value, in the two low bits, and above them the note, which is c + 1, or 0 for none.
+abbrev pub note_in : ℕ → ℕ
+note_in byte = byte / 4
+
+abbrev pub guess_in : ℕ → ℕ
+guess_in byte = byte % 4
+
+-- the note of a place
 abbrev pub note_at : List ℕ → ℕ → ℕ
-note_at noted place = at noted place / 4
+note_at noted place = note_in (at noted place)
+
+-- the note for a c that is noted, or for none
+abbrev pub note_of : Option ℕ → ℕ
+note_of None = 0
+note_of (Some c) = c + 1
 
 -- a byte with the note x in place of its own
 abbrev pub with_note : ℕ → ℕ → ℕ
-with_note byte x = byte % 4 + 4 * x
+with_note byte x = guess_in byte + 4 * x
 
 -- place p of notes after the set was noted, in the window of c: a new note where the set has a value, else the byte as it was
 unfoldable pub note_over : List ℕ → ℕ → List ℕ → ℕ → ℕ

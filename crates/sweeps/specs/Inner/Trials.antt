@@ -1,5 +1,5 @@
 -- What the functions that other crates call answer and leave in lent slices, for any bytes whatever.
-use Rattle.std.specs.Prelude.{Bool, ◌&&◌, ◌||◌, cond, false, not, List, [], ◌%◌, ◌*◌, ◌+◌, ◌/◌, ℕ, eqb, leb, ltb, length, replicate}
+use Rattle.std.specs.Prelude.{Bool, ◌&&◌, ◌||◌, cond, false, not, Option, None, Some, List, [], ◌%◌, ◌*◌, ◌+◌, ◌/◌, ℕ, eqb, leb, ltb, length, replicate}
 use Rattle.values.specs.Lists.{at, every, table}
 use Rattle.gates.specs.Value.{is_unknown}
 use Rattle.netlist.specs.Answer.{number_of}
@@ -78,23 +78,23 @@ opening netlist f c F values touched =
     (following net f c F (swept_once net f c F values) touched)
     (tried false values touched)
 
--- a step count, and what the lent slices of values and of the certificate then hold
+-- the step count of a certificate that was written, and what the lent slices of values and of the certificate then hold
 pub record Certified : Type 0 where
-  pub count : ℕ
+  pub count : Option ℕ
   pub known : List ℕ
   pub certificate : List ℕ
 
-abbrev pub certified : ℕ → List ℕ → List ℕ → Certified
+abbrev pub certified : Option ℕ → List ℕ → List ℕ → Certified
 certified count known certificate = record { count = count; known = known; certificate = certificate }
 
 -- The certificate of a split is written at its slice's start. The slice of values is 0 afterwards. Where the window does not stand or the
--- certificate's slice is too short for any of this window, nothing is written or altered.
+-- certificate's slice is too short for any of this window, nothing is written or altered, and there is no count.
 unfoldable pub certifying : List ℕ → Fault → ℕ → Split → List ℕ → List ℕ → Certified
 certifying netlist f F s values certificate =
     let net = net_of netlist in
     cond (window_stands netlist f F s (length values) && leb (head_length + 14 * length values) (length certificate))
-    (certified (step_count net f F s) (replicate (length values) 0) (written (certificate_for net f F s) certificate))
-    (certified 0 values certificate)
+    (certified (Some (step_count net f F s)) (replicate (length values) 0) (written (certificate_for net f F s) certificate))
+    (certified None values certificate)
 
 -- an answer, and what the lent slices of values, of what is touched and of notes then hold
 pub record Noting : Type 0 where

@@ -25,6 +25,10 @@ circuit_of x = net_of x.netlist.now
 abbrev pub stuck_lines : Window → ℕ → StuckLines
 stuck_lines x = present_below x.c (lines_of x.fault)
 
+-- how many places it has: one for each node at each frame
+abbrev pub places_in : Window → ℕ
+places_in x = x.n * x.w
+
 -- line i of a relation, and the lines of its pins in order
 abbrev pub line_of : Relation → ℕ → Work → Work
 line_of r = try_line (in_bytes (circuit_of r.window).size) (circuit_of r.window) (stuck_lines r.window) r.node r.frame

@@ -4,8 +4,9 @@ use Rattle.values.specs.Lists.{at}
 use Rattle.netlist.specs.Netlist.{Net, net_of}
 use Rattle.circuit.specs.Fault.{StuckLines, lines_in}
 use Rattle.knowledge.specs.Inner.Slice.{known_in}
-use Rattle.trace.specs.Trace.{cleared, effect_dies}
-use Rattle.trace.specs.declared.effect.Frame.{Frame}
+use Rattle.trace.specs.Trace.{cleared, effect_dies, pins_touched, untouched_values}
+use Rattle.trace.specs.declared.frame.Frame.{Frame}
+use Rattle.trace.specs.declared.frame.FramePins.{FramePins}
 use Rattle.trace.specs.declared.effect.Window.{Window}
 
 -- What a frame has, in the words of Trace: the circuit's nodes, the lines that are stuck, and what is known of each node.
@@ -18,6 +19,14 @@ module _ (frame : Frame) where
 
   abbrev pub frame_known : ℕ → ℕ
   frame_known = at frame.values.now
+
+-- a frame's pins of a node: which of them are touched, and their values, a touched one's unknown
+module _ (pins : FramePins) where
+  abbrev pub touched_pins : List ℕ
+  touched_pins = pins_touched (frame_net pins.frame) (frame_lines pins.frame) (frame_known pins.frame) (at pins.touched.now) pins.node
+
+  abbrev pub read_pins : List ℕ
+  read_pins = untouched_values (frame_net pins.frame) (frame_lines pins.frame) (frame_known pins.frame) (at pins.touched.now) pins.node
 
 -- and what a window has: what is known, by node and frame
 module _ (window : Window) where

@@ -25,4 +25,4 @@ returns c =
     let frame_is = c.pin_frame-pins_at.ensures in
     let output = c.byte_at.ensures ∙ ap (at a.known.now) c.place_of-2.ensures in
     conclude_pin (net_of a.netlist.now) (present_below a.c (lines_of a.fault)) a.known.now a.node a.frame _ _ _ _ _ frame_is c.node_count-n.ensures
-    c.circuit_in-circuit.ensures c.place_of.ensures c.tail-values.ensures a.line _ _ _ c.if-line-eq0.false c.pin_source.ensures output c.conclusion.ensures
+    c.circuit_in-circuit.ensures c.place_of.ensures c.tail-values.ensures a.line _ _ _ c.if-line-eq0.false c.pin_source.ensures output (c.unwrap_or.ensures ∙ c.conclusion.ensures)

@@ -5,8 +5,6 @@ use Rattle.fault_list.specs.Inner.Put.{put_at}
 use Rattle.fault_list.specs.Text.{field, line_feed, space}
 use Rattle.report_text.specs.Lines.{mark_line}
 use Rattle.circuit.specs.Fault.{site_byte}
-use Rattle.certificate.specs.Certificate.{split_frame, split_node}
-use Rattle.certificate.specs.declared.layout.Head.{Head}
 use Rattle.std.proofs.Common.{◌≡◌, ℕ, ◌+◌, refl, ap, ◌∙◌, arith}
 use Rattle.report_text.proofs.lines.mark_line.Goals as goal
 
@@ -14,7 +12,6 @@ pub returns-clause-written : goal.returns-clause-written
 unfolding mark_line
 returns-clause-written c =
     let a = c.args in
-    let bs = a.certificate.now in
     let f₁ = c.put_field-end in
     let f₂ = c.put_field-end-2 in
     let f₃ = c.put_field-end-3 in
@@ -27,12 +24,10 @@ returns-clause-written c =
     let e₅ = e₄ + f₅.result in
     let start : f₁.result ≡ 0 + f₁.result = omega arith in
     let site = ap (λ (x : ℕ). put_at f₁.new.out f₁.result (field x space)) c.from.ensures in
-    let node = ap (λ (h : Head). put_at f₄.new.out e₄ (field h.node space)) c.head_of-head.ensures in
-    let frame = ap (λ (h : Head). put_at f₅.new.out e₅ (field h.frame line_feed)) c.head_of-head.ensures in
     let r₁ = run-put a.out.now 0 (field a.fault.node space) f₁.ensures.text_put start in
     let r₂ = run-put f₁.new.out f₁.result (field (site_byte a.fault.site) space) (f₂.ensures.text_put ∙ site) refl in
     let r₃ = run-put f₂.new.out e₂ (field a.fault.stuck space) f₃.ensures.text_put refl in
     let r₄ = run-put f₃.new.out e₃ (field a.c space) f₄.ensures.text_put refl in
-    let r₅ = run-put f₄.new.out e₄ (field (split_node bs) space) (f₅.ensures.text_put ∙ node) refl in
-    let r₆ = run-put f₅.new.out e₅ (field (split_frame bs) line_feed) (f₆.ensures.text_put ∙ frame) refl in
+    let r₅ = run-put f₄.new.out e₄ (field (a.head.node) space) f₅.ensures.text_put refl in
+    let r₆ = run-put f₅.new.out e₅ (field (a.head.frame) line_feed) f₆.ensures.text_put refl in
     (runs r₁ (runs r₂ (runs r₃ (runs r₄ (runs r₅ r₆))))).holds

@@ -6,32 +6,25 @@ use mathlib.Core.Bool.{true}
 use mathlib.Core.Path.{◌∙◌, ◌≡◌, ap, refl, sym}
 use Rattle.netlist.proofs.RefusalLaws.{fails_here, fails_later}
 use Rattle.netlist.specs.Netlist.{net_of, reading_says}
-use Rattle.netlist.proofs.SoundLaws.{sound-size}
 use Rattle.simulator.proofs.SimulatorLaws.{simulation-done, simulation-refused, simulation-unsound, slices_fitting, step_halves}
 use Rattle.simulator.specs.Clock.{simulator_call, slices_fit}
 use Rattle.simulator.proofs.clock.simulate.Goals as goal
 
 pub returns-in_default : goal.returns-in_default
 returns-in_default c =
-    let a = c.args in
     let unsound = sym c.read-answer.ensures ∙ ap reading_says c.unwrap_err.ensures in
-    sym (simulation-unsound (simulator_call a.netlist.now a.circuit a.first.now a.second.now) _ unsound)
+    sym (simulation-unsound _ _ unsound)
 
 pub returns-then-not-circuit_exists : goal.returns-then-not-circuit_exists
 returns-then-not-circuit_exists c =
-    let a = c.args in
     let fails = sym c.circuit_exists.ensures ∙ c.if-not-circuit_exists.true in
-    sym (simulation-refused (simulator_call a.netlist.now a.circuit a.first.now a.second.now) 9 (sym c.in-Ok.ensures) (fails_here fails refl))
-
-pub slices_fit-requires : goal.slices_fit-requires
-slices_fit-requires c = sound-size c.args.netlist.now c.in-Ok.size.nodes c.in-Ok.size.pins (sym c.in-Ok.ensures)
+    sym (simulation-refused _ 9 (sym c.in-Ok.ensures) (fails_here fails refl))
 
 pub returns-then-not-slices_fit : goal.returns-then-not-slices_fit
 returns-then-not-slices_fit c =
-    let a = c.args in
     let exists = sym c.circuit_exists.ensures ∙ c.if-not-circuit_exists.false in
     let fails = sym c.slices_fit.ensures ∙ c.if-not-slices_fit.true in
-    sym (simulation-refused (simulator_call a.netlist.now a.circuit a.first.now a.second.now) 16 (sym c.in-Ok.ensures) (fails_later exists (fails_here fails refl)))
+    sym (simulation-refused _ 16 (sym c.in-Ok.ensures) (fails_later exists (fails_here fails refl)))
 
 pub returns : goal.returns
 returns c =

@@ -1,150 +1,146 @@
 -- A branch, judged step by step. The loop's invariant says where the walk stands: the steps that the reader has left are to come, `known`
 -- holds what is known in the branch that those before have reached, and `closed` says whether it is contradicted. `begins` shows it before
--- the first step, `step-entered` behind a step that follows. A step after a contradiction, or one that does not follow, is not allowed.
--- At the run's end a contradicted branch closes, and of another the trace says whether it does.
+-- the first step, `step-entered` behind a step that is allowed. A step after a contradiction, or one that does not follow, is not allowed.
+-- At the run's end (`ends`) a contradicted branch closes, and of another the trace says whether it does.
 use Prim.Native.Nat.{ℕ, ◌<◌, ◌≤◌, ◌+◌, ◌*◌, ◌/◌}
 use native.Mathlib.Nat.{mul-le-mul_left}
 use native.Mathlib.Omega.{arith}
+use Rattle.std.proofs.Common.{rules}
 use mathlib.Core.Path.{◌≡◌, ◌∙◌, ap, sym, subst}
-use mathlib.Core.List.{List, []}
-use mathlib.Core.Bool.{Bool, false, true}
+use mathlib.Core.List.{List, [], ◌∷◌}
+use mathlib.Core.Bool.{Bool, ◌&&◌, ◌||◌, false, not, true}
 use lib.ListN.{length}
-use Rattle.netlist.specs.Netlist.{Net, net_of, pin_count}
+use Rattle.netlist.specs.Netlist.{pin_count}
+use Rattle.netlist.specs.declared.refusal.Refusal.{Refusal}
 use Rattle.netlist.proofs.SoundLaws.{sound-size}
-use Rattle.circuit.specs.Fault.{StuckLines, lines_of}
+use Rattle.circuit.specs.Fault.{lines_of}
 use Rattle.simulator.proofs.ClockLaws.{Ordered, sound-ordered}
 use Rattle.certificate.specs.Certificate.{steps_in}
 use Rattle.certificate.specs.Inner.Reading.{steps_left}
 use Rattle.certificate.specs.declared.step.Step.{Step}
-use Rattle.knowledge.specs.Inner.Slice.{Entered, Holds, begin_in, enter_at, known_in}
-use Rattle.knowledge.specs.Window.{Branch, begin, present_below}
-use Rattle.knowledge.proofs.HoldLaws.{begin_closed_in, begin_holds_in, fault_says}
-use Rattle.trace.specs.Inner.Tracing.{Traced, tracing}
+use Rattle.knowledge.specs.Inner.Slice.{Entered, Holds, begin_in, enter_at, entered}
+use Rattle.knowledge.specs.Window.{Branch, begin}
+use Rattle.knowledge.proofs.HoldLaws.{InSlice, begin_closed_in, begin_holds_in, fault_says}
+use Rattle.trace.specs.Trace.{effect_dies}
+use Rattle.trace.specs.Inner.Tracing.{Traced}
 use Rattle.trace.proofs.TouchedLaws.{tracing_long}
-use Rattle.checker.specs.Checker.{replay}
+use Rattle.checker.specs.Checker.{follows, replay}
 use Rattle.checker.specs.Inner.Judgement.{judgement}
-use Rattle.std.specs.Prelude.{Ok}
+use Rattle.checker.specs.Inner.Within.{window_known, window_net, window_stuck}
+use Rattle.std.specs.Prelude.{Ok, Result}
 use Rattle.checker.specs.declared.window.Window.{Window}
-use Rattle.checker.proofs.ReplayLaws.{Reached, after_contradiction, begin_full, judged_contradicted, judged-refused, judged-traced, not_following, step-entered}
+use Rattle.checker.proofs.ReplayLaws.{Reached, begin_full, judged_ended, judged-refused, step-entered}
 use Rattle.checker.proofs.window.Window.judge_branch.Goals as goal
+use Rattle.checker.proofs.window.Window.judge_branch.Goals.{In-None, In-Some, then-closed-via-then-closed, then-closed-via-else-closed+then-not-step_follows}
 
--- a window's circuit, its stuck lines, a run's steps and the branch that they begin with
-abbrev Circuit : Window → Net
-Circuit w = net_of w.netlist.now
-
-abbrev Stuck : Window → ℕ → StuckLines
-Stuck w = present_below w.head.c (lines_of w.head.fault)
-
+-- a run's steps, and the branch that they begin with
 abbrev Steps : List ℕ → List Step
 Steps run = steps_in (length run / 7) run
 
 abbrev Start : Window → ℕ → Branch
-Start w v = begin (Circuit w) (Stuck w) w.w w.head.node w.head.frame v
+Start w v = begin (window_net w) (window_stuck w) w.w w.head.node w.head.frame v
 
-size_of : (w : Window) → w.n ≡ (Circuit w).size
+-- the walk of a run's steps, with `rest` of them left, and what is found of the branch
+abbrev Walk : Window → ℕ → List ℕ → List Step → Entered → Type 0
+Walk w v run rest e = Reached (window_net w) (window_stuck w) w.w (Steps run) rest (Start w v) e
+
+abbrev Found : Window → ℕ → List ℕ → Result Bool Refusal
+Found w v run = judgement (window_net w) (lines_of w.head.fault) w.head.c w.head.f (replay (window_net w) (window_stuck w) w.w (Steps run) (Start w v))
+
+-- the trace, from what is known in the slice
+abbrev dies_at : Window → List ℕ → Bool
+dies_at w known = effect_dies (window_net w) (window_known w known) w.head.f w.head.c (lines_of w.head.fault) []
+
+size_of : (w : Window) → w.n ≡ (window_net w).size
 size_of w = sound-size w.netlist.now w.n (pin_count w.netlist.now) w.sound_netlist
 
-order_of : (w : Window) → Ordered (Circuit w)
+order_of : (w : Window) → Ordered (window_net w)
 order_of w = sound-ordered w.netlist.now w.n (pin_count w.netlist.now) w.sound_netlist
 
--- the walk of a run's steps, with `rest` of them left
-module _ (w : Window) (v : ℕ) (run : List ℕ) where
-  abbrev Walk : List Step → List ℕ → Bool → Type 0
-  Walk rest bytes closed = Reached (Circuit w) (Stuck w) w.w (Steps run) rest (Start w v) bytes closed
-
-  -- what is known of the steps that are left and of the branch
-  walked : {left rest : List Step} {bytes : List ℕ} {shut closed : Bool} → left ≡ rest → shut ≡ closed → Walk left bytes shut → Walk rest bytes closed
-  walked {left} {rest} {bytes} {shut} {closed} e q reached = subst (λ (x : List Step). Walk x bytes closed) e (subst (λ (x : Bool). Walk left bytes x) q reached)
-
-  -- what the branch begins with is what stands in the slice then
-  begins : (length_known : ℕ) (left : List Step) → w.head.node < w.n → w.head.frame < w.w → v < 2 → length_known ≡ (Circuit w).size * w.w → left ≡ Steps run
-      → {e : Entered} → e ≡ begin_in (Circuit w).size w.head.fault w.head.c length_known w.head.node w.head.frame v → Walk left e.bytes e.closed
-  begins length_known left hn ht hv full whole {e} q =
-      let h = w.head in
-      let first = Start w v in
-      let fs = fault_says (Circuit w) h.fault w.fault_in_circuit in
-      let hc : h.c ≤ w.w = omega (arith, w.frames_in_all) in
-      let within : h.node < (Circuit w).size = omega (arith, size_of w) in
-      let began = q ∙ ap (λ (x : ℕ). begin_in (Circuit w).size h.fault h.c x h.node h.frame v) full in
-      record {
-        branch = first;
-        replays = ap (λ (ss : List Step). replay (Circuit w) (Stuck w) w.w ss first) (sym whole);
-        holds =
-            subst (λ (x : Entered). Holds (Circuit w) (Stuck w) w.w first.values x.bytes) (sym began)
-            (begin_holds_in (Circuit w) h.fault w.w fs.0 fs.1 h.c h.node h.frame v hc within ht hv);
-        same_closed = ap (λ (x : Entered). x.closed) began ∙ begin_closed_in (Circuit w) h.fault w.w fs.0 fs.1 h.c h.node h.frame v hc within ht hv;
-        full = begin_full (Circuit w) (Stuck w) w.w h.node h.frame v;
-      }
-
-  -- a trace that dies behind the last step
-  traced : (known touched : List ℕ) (dies : Bool) → length touched ≡ w.n * w.w → dies ≡ (tracing (Circuit w) (lines_of w.head.fault) w.head.c w.head.f (known_in known (Circuit w).size) touched).dies
-      → Walk [] known false → Ok dies ≡ judgement (Circuit w) (lines_of w.head.fault) w.head.c w.head.f (replay (Circuit w) (Stuck w) w.w (Steps run) (Start w v))
-  traced known touched dies fits e reached =
-      let h = w.head in
-      let lent : length touched ≡ (Circuit w).size * w.w = fits ∙ ap (λ (x : ℕ). x * w.w) (size_of w) in
-      let m : (Circuit w).size * (h.f + 1) ≤ (Circuit w).size * w.w = mul-le-mul_left (Circuit w).size (omega (arith, w.frames_in_all)) in
-      let long : (Circuit w).size * (h.f + 1) ≤ length touched = omega (arith, m, lent) in
-      let t = tracing_long (Circuit w) (lines_of h.fault) h.c h.f (known_in known (Circuit w).size) touched long in
-      judged-traced (Circuit w) (order_of w) (lines_of h.fault) h.c h.f w.w (Steps run) (Start w v) known (omega (arith, w.frames_in_all)) dies
-      (e ∙ sym (ap (λ (x : Traced). x.dies) t)) reached
+-- what the branch begins with is what stands in the slice then
+begins : (w : Window) (v : ℕ) → w.head.node < w.n → w.head.frame < w.w → v < 2 → {e : Entered}
+    → length e.bytes ≡ (window_net w).size * w.w → e ≡ begin_in (window_net w).size w.head.fault w.head.c ((window_net w).size * w.w) w.head.node w.head.frame v
+    → InSlice (window_net w) (window_stuck w) w.w (Start w v) e
+begins w v hn ht hv {e} full q =
+    let h = w.head in
+    let fs = fault_says (window_net w) h.fault w.fault_in_circuit in
+    let hc : h.c ≤ w.w = omega (arith, w.frames_in_all) in
+    let within : h.node < (window_net w).size = omega (arith, size_of w) in
+    record {
+      holds = subst (λ (x : Entered). Holds (window_net w) (window_stuck w) w.w (Start w v).values x.bytes) (sym q)
+          (begin_holds_in (window_net w) h.fault w.w fs.0 fs.1 h.c h.node h.frame v hc within ht hv);
+      full = full;
+      wide = begin_full (window_net w) (window_stuck w) w.w h.node h.frame v;
+      same_closed = ap (λ (x : Entered). x.closed) q ∙ begin_closed_in (window_net w) h.fault w.w fs.0 fs.1 h.c h.node h.frame v hc within ht hv;
+    }
 
 pub loop-step-init : goal.loop-step-init
 loop-step-init c =
-    let a = c.args in
-    let w = a.self in
-    let full : length a.known.now ≡ (Circuit w).size * w.w = c.requires.slices_fit.0 ∙ ap (λ (x : ℕ). x * w.w) (size_of w) in
+    let w = c.args.self in
+    let full : length c.args.known.now ≡ (window_net w).size * w.w = c.requires.slices_fit.0 ∙ ap (λ (x : ℕ). x * w.w) (size_of w) in
     let split = c.requires.split_within in
     let e = c.begin_branch-closed in
     let reader = c.into_iter-step-iterator.result in
-    let whole : steps_left reader.run.now reader.at ≡ Steps a.run.now = cc in
-    (e.auto.known ∙ full, begins w a.v a.run.now (length a.known.now) (steps_left reader.run.now reader.at) split.0 split.1 c.requires.v_is_value full whole e.ensures)
+    let whole : steps_left reader.run.now reader.at ≡ Steps c.args.run.now = cc in
+    record {
+      branch = Start w c.args.v;
+      replays = ap (λ (ss : List Step). replay (window_net w) (window_stuck w) w.w ss (Start w c.args.v)) (sym whole);
+      slice = begins w c.args.v split.0 split.1 c.requires.v_is_value (e.auto.known ∙ full)
+          (e.ensures ∙ ap (λ (x : ℕ). begin_in (window_net w).size w.head.fault w.head.c x w.head.node w.head.frame c.args.v) full);
+    }
+
+-- a step is read
+walked : (c : In-Some) → Walk c.args.self c.args.v c.args.run.now (c.in-Some.step ∷ steps_left c.next.new.self.run.now c.next.new.self.at) (entered c.loop-step.closed c.loop-step.known)
+walked c =
+    let l = c.loop-step in
+    subst (λ (ss : List Step). Walk c.args.self c.args.v c.args.run.now ss (entered l.closed l.known)) c.in-Some.ensures.steps l.invariant
 
 pub returns-then-closed : goal.returns-then-closed
 returns-then-closed c =
     let w = c.args.self in
-    let h = w.head in
     let l = c.loop-step in
-    let contradicted : l.closed ≡ true = assumption in
-    let reached = walked w c.args.v c.args.run.now c.in-Some.ensures.steps contradicted l.invariant.1 in
-    judged-refused (Circuit w) (order_of w) (lines_of h.fault) h.c h.f w.w _ _ [] (after_contradiction (Circuit w) (order_of w) (Stuck w) w.w _ _ _ l.known _ reached)
-
-pub returns-then-not-step_follows : goal.returns-then-not-step_follows
-returns-then-not-step_follows c =
-    let w = c.args.self in
-    let h = w.head in
-    let l = c.loop-step in
-    let unclosed : l.closed ≡ false = assumption in
-    let reached = walked w c.args.v c.args.run.now c.in-Some.ensures.steps unclosed l.invariant.1 in
-    let no = sym c.step_follows.ensures ∙ c.if-not-step_follows.true in
-    judged-refused (Circuit w) (order_of w) (lines_of h.fault) h.c h.f w.w _ _ [] (not_following (Circuit w) (order_of w) (Stuck w) w.w _ _ _ l.known _ reached no)
+    let follows_here = follows (window_net w) (window_stuck w) w.w (window_known w l.known) c.in-Some.step in
+    let no : (not l.closed && follows_here) ≡ false =
+    elim c.then-closed.branch [
+      | then-closed-via-then-closed t ↦ ap (λ (q : Bool). not q && follows_here) t.if-closed.true
+      | then-closed-via-else-closed+then-not-step_follows t ↦ λ i. not (t.if-closed.false i) && (sym t.step_follows.ensures ∙ t.if-not-step_follows.true) i
+    ] in
+    judged-refused (window_net w) (order_of w) (lines_of w.head.fault) w.head.c w.head.f w.w (walked (goal.at.returns-then-closed c).In-Some) no
 
 pub loop-step-preserved : goal.loop-step-preserved
 loop-step-preserved c =
     let w = c.args.self in
-    let l = c.loop-step in
     let s = c.in-Some.step in
-    let left = steps_left c.next.new.self.run.now c.next.new.self.at in
-    let unclosed : l.closed ≡ false = assumption in
-    let reached = walked w c.args.v c.args.run.now c.in-Some.ensures.steps unclosed l.invariant.1 in
-    let yes = sym c.step_follows.ensures ∙ c.if-not-step_follows.false in
     let n = c.enter_value-closed in
     let place = c.place_of-place.ensures ∙ ap (λ (x : ℕ). s.frame * x + s.node) (size_of w) in
-    let e = n.ensures ∙ ap (λ (i : ℕ). enter_at l.known i s.value) place in
-    let into = step-entered (Circuit w) (order_of w) (Stuck w) w.w _ left _ l.known s l.invariant.0 reached yes in
-    (n.auto.known ∙ l.invariant.0, subst (λ (x : Entered). Walk w c.args.v c.args.run.now left x.bytes x.closed) (sym e) into)
+    let e = n.ensures ∙ ap (λ (i : ℕ). enter_at c.loop-step.known i s.value) place in
+    let yes : (not c.loop-step.closed && follows (window_net w) (window_stuck w) w.w (window_known w c.loop-step.known) s) ≡ true =
+    λ i. not (c.if-closed.false i) && (sym c.step_follows.ensures ∙ c.if-not-step_follows.false) i in
+    subst (λ (x : Entered). Walk w c.args.v c.args.run.now (steps_left c.next.new.self.run.now c.next.new.self.at) x) (sym e)
+    (step-entered (window_net w) (order_of w) (window_stuck w) w.w (walked (goal.at.loop-step-preserved c).In-Some) yes)
+
+-- the last step was read
+ends : (c : In-None) → Ok (c.loop-step.closed || dies_at c.args.self c.loop-step.known) ≡ Found c.args.self c.args.v c.args.run.now
+ends c =
+    let w = c.args.self in
+    let l = c.loop-step in
+    judged_ended (window_net w) (order_of w) (lines_of w.head.fault) w.head.c w.head.f w.w (omega (arith, w.frames_in_all))
+    (subst (λ (ss : List Step). Walk w c.args.v c.args.run.now ss (entered l.closed l.known)) c.in-None.ensures.steps.0 l.invariant)
 
 pub returns-then-closed-2 : goal.returns-then-closed-2
 returns-then-closed-2 c =
+    let said = ends (goal.at.returns-then-closed-2 c).In-None in
+    search (rules, said)
+
+-- the trace has room in the lent slice
+pub returns-else-closed-2 : goal.returns-else-closed-2
+returns-else-closed-2 c =
     let w = c.args.self in
     let h = w.head in
-    let l = c.loop-step in
-    judged_contradicted (Circuit w) (order_of w) (lines_of h.fault) h.c h.f w.w _ _ l.known
-    (walked w c.args.v c.args.run.now c.in-None.ensures.steps.0 c.if-closed-2.true l.invariant.1)
-
-pub returns : goal.returns
-returns c =
-    let w = c.args.self in
-    let l = c.loop-step in
-    traced w c.args.v c.args.run.now l.known c.args.touched.now _ c.requires.slices_fit.1
-    (ap (λ (x : Traced). x.dies) c.effect_dies.ensures)
-    (walked w c.args.v c.args.run.now c.in-None.ensures.steps.0 c.if-closed-2.false l.invariant.1)
+    let known = window_known w c.loop-step.known in
+    let touched = c.args.touched.now in
+    let lent : length touched ≡ (window_net w).size * w.w = c.requires.slices_fit.1 ∙ ap (λ (x : ℕ). x * w.w) (size_of w) in
+    let m : (window_net w).size * (h.f + 1) ≤ (window_net w).size * w.w = mul-le-mul_left (window_net w).size (omega (arith, w.frames_in_all)) in
+    let long = tracing_long (window_net w) (lines_of h.fault) h.c h.f known touched (omega (arith, m, lent)) in
+    let dies = ap (λ (x : Traced). x.dies) (c.effect_dies.ensures ∙ sym long) in
+    (λ i. Ok (sym c.if-closed-2.false i || dies i)) ∙ ends (goal.at.returns-else-closed-2 c).In-None

@@ -1,18 +1,16 @@
-use Prim.Native.Nat.{◌*◌, ◌/◌}
-use mathlib.Core.Path.{◌≡◌}
 use lib.ListN.{length}
-use Rattle.netlist.specs.Netlist.{net_of}
-use Rattle.circuit.specs.Fault.{lines_of}
+use Prim.Native.Nat.{◌/◌}
 use Rattle.certificate.specs.Certificate.{steps_in}
 use Rattle.certificate.specs.Inner.Reading.{steps_left}
+use Rattle.knowledge.specs.Inner.Slice.{entered}
+use Rattle.knowledge.specs.Window.{begin}
 use Rattle.checker.proofs.ReplayLaws.{Reached}
-use Rattle.knowledge.specs.Window.{begin, present_below}
+use Rattle.checker.specs.Inner.Within.{window_net, window_stuck}
 use Rattle.checker.proofs.window.Window.judge_branch.Given as goal
 
 abbrev pub invariant-loop-step : goal.invariant-loop-step
 invariant-loop-step l =
     let w = l.self in
-    let net = net_of w.netlist.now in
-    let S = present_below w.head.c (lines_of w.head.fault) in
-    (length l.known ≡ net.size * w.w)
-    × Reached net S w.w (steps_in (length l.run / 7) l.run) (steps_left l.step-iterator.run.now l.step-iterator.at) (begin net S w.w w.head.node w.head.frame l.v) l.known l.closed
+    let net = window_net w in
+    let left = steps_left l.step-iterator.run.now l.step-iterator.at in
+    Reached net (window_stuck w) w.w (steps_in (length l.run / 7) l.run) left (begin net (window_stuck w) w.w w.head.node w.head.frame l.v) (entered l.closed l.known)

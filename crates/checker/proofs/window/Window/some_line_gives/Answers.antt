@@ -1,40 +1,18 @@
--- The lines of a relation, one after the other: the loop's invariant says that none of the lines before `line` gives the step. Where a
--- line gives it, `any-by` says that one does; where all are tried, `any_more` says that none does.
-use Prim.Native.Nat.{suc, ◌<◌}
-use native.Mathlib.Omega.{arith}
-use native.Mathlib.Numerals.{add-one}
-use mathlib.Core.Path.{◌≡◌, ◌∙◌, sym}
-use lib.ListN.{length}
-use Rattle.netlist.specs.Netlist.{net_of}
-use Rattle.circuit.specs.Fault.{lines_of}
-use Rattle.knowledge.specs.Window.{present_below}
-use Rattle.knowledge.specs.Inner.Slice.{known_in}
-use Rattle.checker.specs.Checker.{gives_step}
+use Rattle.std.proofs.Common.{rules}
+use Prim.Native.Nat.{suc}
+use mathlib.Core.Path.{◌∙◌, ap, sym}
 use Rattle.netlist.proofs.NetlistLaws.{pins-length}
-use Rattle.values.proofs.ListLaws.{any-by, any_more}
+use Rattle.values.specs.Lists.{any}
+use Rattle.values.proofs.RangeLaws.{any_through}
+use Rattle.checker.specs.Checker.{gives_step}
+use Rattle.checker.specs.Inner.Within.{window_known, window_net, window_stuck}
 use Rattle.checker.proofs.window.Window.some_line_gives.Goals as goal
 
-pub returns-then-line_gives : goal.returns-then-line_gives
-returns-then-line_gives c =
+pub returns : goal.returns
+returns c =
     let a = c.args in
-    let net = net_of a.self.netlist.now in
-    let gives = gives_step net (present_below a.self.head.c (lines_of a.self.head.fault)) 0 (known_in a.known.now net.size) a.step in
-    let counted = c.length_of-line-end.ensures ∙ sym (pins-length a.self.netlist.now a.step.via) in
-    let h : c.loop-line.line < suc (length (net.pins a.step.via)) = omega (arith, counted, c.loop-line-test.true) in
-    sym (any-by gives _ c.loop-line.line h (sym c.line_gives.ensures ∙ c.if-line_gives.true))
-
-pub loop-line-preserved : goal.loop-line-preserved
-loop-line-preserved c =
-    let a = c.args in
-    let net = net_of a.self.netlist.now in
-    let gives = gives_step net (present_below a.self.head.c (lines_of a.self.head.fault)) 0 (known_in a.known.now net.size) a.step in
-    rw add-one (any_more gives c.loop-line.line c.loop-line.invariant (sym c.line_gives.ensures ∙ c.if-line_gives.false))
-
-pub returns-else-line_gives : goal.returns-else-line_gives
-returns-else-line_gives c =
-    let a = c.args in
-    let net = net_of a.self.netlist.now in
-    let gives = gives_step net (present_below a.self.head.c (lines_of a.self.head.fault)) 0 (known_in a.known.now net.size) a.step in
-    let counted = c.length_of-line-end.ensures ∙ sym (pins-length a.self.netlist.now a.step.via) in
-    let last : c.loop-line.line ≡ length (net.pins a.step.via) = omega (arith, counted) in
-    rw (← last) (sym (any_more gives c.loop-line.line c.loop-line.invariant (sym c.line_gives.ensures ∙ c.if-line_gives.false)))
+    let gives = gives_step (window_net a.self) (window_stuck a.self) 0 (window_known a.self a.known.now) a.step in
+    let line = c.new.ensures in
+    let pins = c.length_of-pins.ensures ∙ sym (pins-length a.self.netlist.now a.step.via) in
+    any_through gives c.length_of-pins.result _ _ c.any.result line.start line.end line.exhausted c.any.ensures.ran (λ x b q h. search rules)
+    ∙ ap (λ n. any gives (suc n)) pins

@@ -1,6 +1,6 @@
 -- What the finder has answered is said in each of the three arms, from which answer was told there. `fault-turn` says what the turn makes of
 -- it, so each return rewrites the progress and the line that was written to that. Where the finder refuses nothing, the netlist is
--- sound and the fault exists, which `looked_at` asks for, and by `turns_fall` fewer turns are left.
+-- sound and the fault exists, which `fault_counted` asks for, and by `turns_fall` fewer turns are left.
 use Rattle.std.proofs.Common.{◌∙◌, Err, None, Ok, Some, ap, refl}
 use Rattle.report_text.proofs.TurnLaws.{Said, answered-exists, answered-sound, fault-turn, said, turns_fall}
 use Rattle.report_text.specs.Turns.{made_for}
@@ -31,43 +31,44 @@ refused c =
     said a.input.now a.fault a.first.now a.second.now a.certificate.now _ c.tail-netlist.ensures c.byte_at-b.ensures c.byte_at-f.ensures
     c.in-Err.is c.find-finding.ensures.outcome
 
-pub looked_at-requires-clause-netlist_sound : goal.looked_at-requires-clause-netlist_sound
-looked_at-requires-clause-netlist_sound c =
-    rw c.tail-netlist.ensures (answered-sound (found (goal.at.looked_at-requires-clause-netlist_sound c).In-Ok-Some) refl)
+pub fault_counted-requires-clause-netlist_sound : goal.fault_counted-requires-clause-netlist_sound
+fault_counted-requires-clause-netlist_sound c =
+    rw c.tail-netlist.ensures (answered-sound (found (goal.at.fault_counted-requires-clause-netlist_sound c).In-Ok-Some) refl)
 
-pub looked_at-requires-clause-fault_exists : goal.looked_at-requires-clause-fault_exists
-looked_at-requires-clause-fault_exists c =
-    rw c.tail-netlist.ensures (answered-exists (found (goal.at.looked_at-requires-clause-fault_exists c).In-Ok-Some) refl)
+pub fault_counted-requires-clause-fault_exists : goal.fault_counted-requires-clause-fault_exists
+fault_counted-requires-clause-fault_exists c =
+    rw c.tail-netlist.ensures (answered-exists (found (goal.at.fault_counted-requires-clause-fault_exists c).In-Ok-Some) refl)
 
-pub looked_at-requires-in-Ok-None-clause-netlist_sound : goal.looked_at-requires-in-Ok-None-clause-netlist_sound
-looked_at-requires-in-Ok-None-clause-netlist_sound c =
+pub fault_counted-requires-in-Ok-None-clause-netlist_sound : goal.fault_counted-requires-in-Ok-None-clause-netlist_sound
+fault_counted-requires-in-Ok-None-clause-netlist_sound c =
     rw c.tail-netlist.ensures (answered-sound (nothing c) refl)
 
-pub looked_at-requires-in-Ok-None-clause-fault_exists : goal.looked_at-requires-in-Ok-None-clause-fault_exists
-looked_at-requires-in-Ok-None-clause-fault_exists c =
+pub fault_counted-requires-in-Ok-None-clause-fault_exists : goal.fault_counted-requires-in-Ok-None-clause-fault_exists
+fault_counted-requires-in-Ok-None-clause-fault_exists c =
     rw c.tail-netlist.ensures (answered-exists (nothing c) refl)
 
 pub returns-in-Ok-Some-clause-turn_made : goal.returns-in-Ok-Some-clause-turn_made
 unfolding made_for
 returns-in-Ok-Some-clause-turn_made c =
     let line = c.mark_line-length.ensures in
-    rw (c.looked_at.ensures, c.tail-netlist.ensures, c.marked.ensures, line.length_said.0, line.written)
+    rw (c.fault_counted.ensures, c.tail-netlist.ensures, c.marked.ensures, line.length_said.0, line.written, c.head_of-head.ensures)
     (fault-turn (found (goal.at.returns-in-Ok-Some-clause-turn_made c).In-Ok-Some) c.args.self c.args.line.now)
 
 pub returns-in-Ok-Some-clause-turns_fall : goal.returns-in-Ok-Some-clause-turns_fall
 unfolding made_for
 returns-in-Ok-Some-clause-turns_fall c =
-    rw (c.looked_at.ensures, c.tail-netlist.ensures) (turns_fall c.args.input.now c.args.fault (answered-exists (found (goal.at.returns-in-Ok-Some-clause-turns_fall c).In-Ok-Some) refl))
+    rw (c.fault_counted.ensures, c.tail-netlist.ensures) (turns_fall c.args.input.now c.args.fault (answered-exists (found (goal.at.returns-in-Ok-Some-clause-turns_fall c).In-Ok-Some) refl))
 
 pub returns-in-Ok-None-clause-turn_made : goal.returns-in-Ok-None-clause-turn_made
 unfolding made_for
 returns-in-Ok-None-clause-turn_made c =
-    rw (c.looked_at-in-Ok-None.ensures, c.tail-netlist.ensures) (fault-turn (nothing (goal.at.returns-in-Ok-None-clause-turn_made c).In-Ok-None) c.args.self c.args.line.now)
+    rw (c.fault_counted-in-Ok-None.ensures, c.tail-netlist.ensures) (fault-turn (nothing (goal.at.returns-in-Ok-None-clause-turn_made c).In-Ok-None) c.args.self c.args.line.now)
 
 pub returns-in-Ok-None-clause-turns_fall : goal.returns-in-Ok-None-clause-turns_fall
 unfolding made_for
 returns-in-Ok-None-clause-turns_fall c =
-    rw (c.looked_at-in-Ok-None.ensures, c.tail-netlist.ensures) (turns_fall c.args.input.now c.args.fault (answered-exists (nothing (goal.at.returns-in-Ok-None-clause-turns_fall c).In-Ok-None) refl))
+    let said = nothing (goal.at.returns-in-Ok-None-clause-turns_fall c).In-Ok-None in
+    rw (c.fault_counted-in-Ok-None.ensures, c.tail-netlist.ensures) (turns_fall c.args.input.now c.args.fault (answered-exists said refl))
 
 pub returns-in-Err-clause-turn_made : goal.returns-in-Err-clause-turn_made
 unfolding made_for

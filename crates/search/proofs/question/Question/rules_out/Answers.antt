@@ -14,14 +14,14 @@ room-part s n e =
     let few : n ≤ most_nodes = (facts s n (pin_count s) e).few_nodes in
     length-take-le n (replicate most_nodes 0) (omega (arith, length-replicate {A = ℕ} most_nodes 0, few))
 
-pub slice_bounds-good-end : goal.slice_bounds-good-end
-slice_bounds-good-end c = let q = c.args.self.now in sym (room-part q.netlist.now q.n q.sound_netlist)
+pub slice_bounds-circuits-end-5 : goal.slice_bounds-circuits-end-5
+slice_bounds-circuits-end-5 c = let q = c.args.self.now in sym (room-part q.netlist.now q.n q.sound_netlist)
 
-pub slice_bounds-good-end-2 : goal.slice_bounds-good-end-2
-slice_bounds-good-end-2 c = let q = c.args.self.now in sym (room-part q.netlist.now q.n q.sound_netlist)
+pub slice_bounds-circuits-end-6 : goal.slice_bounds-circuits-end-6
+slice_bounds-circuits-end-6 c = let q = c.args.self.now in sym (room-part q.netlist.now q.n q.sound_netlist)
 
-pub is_seen-requires-clause-good_fits : goal.is_seen-requires-clause-good_fits
-is_seen-requires-clause-good_fits c =
+pub invariant_of-circuits-clause-good_fits : goal.invariant_of-circuits-clause-good_fits
+invariant_of-circuits-clause-good_fits c =
     let q = c.args.self.now in
     let r = room-part q.netlist.now q.n q.sound_netlist in
     (r, r)

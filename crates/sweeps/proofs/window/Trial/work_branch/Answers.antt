@@ -1,14 +1,7 @@
 -- `begin_branch` leaves the branch at its start, and `sweep_to_end` the branch worked out (`sweeps_stand_for`).
-use native.Mathlib.Omega.{arith}
 use Rattle.sweeps.specs.Inner.Windows.{work_of}
-use Rattle.sweeps.proofs.BranchLaws.{begins_few, sweeps_few, sweeps_stand_for, trial_frames}
+use Rattle.sweeps.proofs.BranchLaws.{begins_few, sweeps_few, sweeps_stand_for}
 use Rattle.sweeps.proofs.window.Trial.work_branch.Goals as goal
-
-pub overflow_add-window : goal.overflow_add-window
-overflow_add-window c = omega (arith, trial_frames c.args.self)
-
-pub overflow_add-window-2 : goal.overflow_add-window-2
-overflow_add-window-2 c = omega (arith, trial_frames c.args.self)
 
 pub sweep_to_end-requires-clause-few : goal.sweep_to_end-requires-clause-few
 sweep_to_end-requires-clause-few c =

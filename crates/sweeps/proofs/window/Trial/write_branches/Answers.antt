@@ -61,4 +61,4 @@ returns-clause-written c =
     let second = second_run l r₀ r₁ zero.result.steps count₀ room before one.new.run first behind in
     c.write_head.ensures
     ∙ (λ i. sets (second i) 0 (head_bytes (c.head.ensures i) (7 * count₀ i) (7 * count₁ i)))
-    ∙ certificate-written (net_in s) s.fault s.f s.split l room
+    ∙ certificate-written (net_in s) s.window.fault s.f s.split l room
