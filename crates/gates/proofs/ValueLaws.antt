@@ -1,8 +1,9 @@
 -- Laws of the values of a line.
-use mathlib.Core.Bool.{false, false≢true, true, true≢false}
+use mathlib.Core.Bool.{false, false≢true, not, true, true≢false}
 use mathlib.Core.Path.{◌≡◌, refl}
 use Prim.Native.Nat.{◌<◌, ◌≤◌, suc, zero, ℕ}
 use native.Mathlib.Omega.{arith}
+use lib.Dec.{eqb}
 use Rattle.gates.specs.Value.{and₂, differ, is_unknown, neg, or₂, stuck_or, xor₂}
 
 pub stuck-known : (s v : ℕ) → s < 2 → stuck_or s v ≡ s
@@ -53,6 +54,16 @@ pub xor_unknown : (v w : ℕ) → 2 ≤ v → xor₂ v w ≡ 2
 xor_unknown zero w h = absurd (omega arith)
 xor_unknown (suc zero) w h = absurd (omega arith)
 xor_unknown (suc (suc v)) w h = refl
+
+-- values differ where both are known and not equal
+pub differ-known : (v w : ℕ) → v < 2 → w < 2 → not (eqb v w) ≡ differ v w
+differ-known zero zero h g = refl
+differ-known zero (suc zero) h g = refl
+differ-known zero (suc (suc w)) h g = absurd (omega arith)
+differ-known (suc zero) zero h g = refl
+differ-known (suc zero) (suc zero) h g = refl
+differ-known (suc zero) (suc (suc w)) h g = absurd (omega arith)
+differ-known (suc (suc v)) w h g = absurd (omega arith)
 
 pub differ_unknown_first : (v w : ℕ) → 2 ≤ v → differ v w ≡ false
 differ_unknown_first zero w h = absurd (omega arith)

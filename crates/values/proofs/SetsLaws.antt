@@ -1,13 +1,15 @@
 -- A run of stores, where it does not fit, and where it stands in a part of a list.
 use mathlib.Core.List.{List, [], ◌++◌, ◌∷◌, append-nil}
 use mathlib.Core.Path.{◌∙◌, ◌≡◌, ap, refl, sym}
-use Prim.Native.Nat.{◌+◌, ◌-◌, ◌≤◌, min, suc, zero, ℕ}
+use Prim.Native.Nat.{◌+◌, ◌-◌, ◌<◌, ◌≤◌, min, suc, zero, ℕ}
 use native.Mathlib.Decide.{dec_le}
 use native.Mathlib.Nat.{min-le_left, min-le_right}
+use native.Mathlib.Numerals.{add-one}
 use native.Mathlib.Omega.{arith}
 use lib.ListN.{drop, drop_of_length-le, length, length-drop, length-set, set, take, take-append-drop}
 use borrow.Rule.Slice.PartMut.{mid_of, put_mid}
-use lib.Seq.{length-take-le, set_out, sets, sets-eq, take_all, take-nil}
+use lib.Seq.{length-take-le, set_out, sets, sets-eq, take_all, take-nil, take-suc}
+use Rattle.values.specs.Lists.{at}
 
 -- stores past the end do nothing
 pub sets_past : (vs l : List ℕ) (i : ℕ) → length l ≤ i → l ≡ sets l i vs
@@ -52,6 +54,16 @@ sets-whole vs l e =
     let h : 0 + length vs ≤ length l = omega arith in
     let g : length l ≤ 0 + length vs = omega arith in
     sets-eq vs l 0 h ∙ rw (drop_of_length-le l g) (append-nil vs)
+
+-- one turn of a loop that copies
+pub copied_more : (vs l : List ℕ) (i : ℕ) → i < length vs → set (sets l 0 (take i vs)) i (at vs i) ≡ sets l 0 (take (i + 1) vs)
+copied_more vs l i h =
+    let k : i ≤ length vs = omega arith in
+    let e : i ≡ 0 + length (take i vs) = omega (arith, length-take-le i vs k) in
+    ap (λ (j : ℕ). set (sets l 0 (take i vs)) j (at vs i)) e
+    ∙ sets-after (take i vs) (at vs i ∷ []) l 0
+    ∙ ap (λ (r : List ℕ). sets l 0 r) (sym (take-suc vs i 0 h))
+    ∙ rw add-one
 
 -- a copy of all that there is room for
 pub copied : (vs l : List ℕ) (i : ℕ) → min (length vs) (length l) ≤ i → sets l 0 (take i vs) ≡ sets l 0 vs
