@@ -1,12 +1,14 @@
 -- Laws of what a node's pins read, as the code walks them: by pin number, from the last pin on.
 use mathlib.Core.List.{List, [], ◌∷◌}
-use mathlib.Core.Bool.{false≢true}
-use mathlib.Core.Path.{◌∙◌, ◌≡◌, ap, subst}
+use mathlib.Core.Bool.{Bool, cond, false, false≢true, true}
+use mathlib.Core.Path.{◌∙◌, ◌≡◌, ap, refl, subst, sym}
 use Prim.Native.Nat.{◌-◌, ◌<◌, ◌≤◌, suc, zero, ℕ}
 use native.Mathlib.Nat.{zero-add}
 use native.Mathlib.Omega.{arith}
-use lib.ListN.{drop, drop_of_length-le, length}
-use lib.Seq.{drop-cons}
+use lib.Dec.{eqb}
+use lib.ListN.{drop, drop_of_length-le, length, length-set, set}
+use lib.Seq.{drop-cons, get_or-set_other, get_or-set_same}
+use borrow.Author.Tests.{eqb-false, eqb-true}
 use Rattle.values.proofs.ListLaws.{indexed-at, length-indexed}
 use Rattle.netlist.proofs.NetlistLaws.{pins-at, pins-length}
 use Rattle.simulator.specs.Clock.{pin_values}
@@ -51,6 +53,24 @@ module _ (bs : List ℕ) (s : StuckLines) (v : ℕ → ℕ) (n : ℕ) where
 
 pub ruleset pin_laws = (length-pin_values, pin_values-at)
 
+-- the same with one pin taken to read another value
+module _ (bs : List ℕ) (s : StuckLines) (v : ℕ → ℕ) (n a w : ℕ) where
+  abbrev pub assumed_pins : List ℕ
+  assumed_pins = set (pin_values (net_of bs) s v n) a w
+
+  pub length_assumed : length assumed_pins ≡ length_of bs n
+  length_assumed = simp length-set (length-pin_values bs s v n)
+
+  pub assumed_at : (k : ℕ) → k < length_of bs n → at assumed_pins k ≡ cond (eqb k a) w (stuck_or (s.pin n k) (v (source_of bs n k)))
+  assumed_at k h = go (eqb k a) refl
+    where
+      vs : List ℕ
+      vs = pin_values (net_of bs) s v n
+
+      go : (b : Bool) → eqb k a ≡ b → at (set vs a w) k ≡ cond b w (stuck_or (s.pin n k) (v (source_of bs n k)))
+      go true e = rw (eqb-true k a e) (get_or-set_same vs a w 0 (omega (arith, length-pin_values bs s v n, eqb-true k a e)))
+      go false e = get_or-set_other vs a k w 0 (eqb-false k a e) ∙ pin_values-at bs s v n k h
+
 -- a gate's function of no pins
 pub function_none : (g : Gate) (vs : List ℕ) → unit_of g ≡ function_of g (drop (length vs) vs)
 function_none g vs = let h : length vs ≤ length vs = omega arith in rw (drop_of_length-le vs h)
@@ -78,3 +98,21 @@ settled_stays Wire w v e = absurd (false≢true (ap is_some e))
 settled_stays And w v e = let z : 0 ≡ w = ap (λ o. unwrap_or o 0) e in rw (← z, and_zero v)
 settled_stays Or w v e = let z : 1 ≡ w = ap (λ o. unwrap_or o 1) e in rw (← z, or_one v)
 settled_stays Xor w v e = absurd (false≢true (ap is_some e))
+
+-- a gate's function of a node's pins, one of them taken to read another value, where the last ones are joined
+module _ (bs : List ℕ) (s : StuckLines) (v : ℕ → ℕ) (n a w : ℕ) (g : Gate) where
+  -- the value is that of the pins from j on
+  abbrev pub JoinedFrom : ℕ → ℕ → Type 0
+  JoinedFrom j value = (j ≤ length_of bs n) × (value ≡ function_of g (drop j (assumed_pins bs s v n a w)))
+
+  -- no pin is joined yet
+  pub joined-none : JoinedFrom (length_of bs n) (unit_of g)
+  joined-none = (omega arith, rw (← length_assumed bs s v n a w) (function_none g (assumed_pins bs s v n a w)))
+
+  -- the pin in front of those that are joined is one of the node's, and the value is that of the pins behind it
+  pub joined_behind : (j value : ℕ) → 0 < j → JoinedFrom j value → (j - 1 < length_of bs n) × (value ≡ function_of g (drop (suc (j - 1)) (assumed_pins bs s v n a w)))
+  joined_behind j value h (l, e) = let back : suc (j - 1) ≡ j = omega (arith, h) in (omega (arith, h, l), rw back e)
+
+  -- a value that stays is that of all pins
+  pub joined-all : (j value : ℕ) → JoinedFrom j value → ((x : ℕ) → join_of g x value ≡ value) → value ≡ function_of g (assumed_pins bs s v n a w)
+  joined-all j value (l, e) stays = sym (function_stays g value stays (assumed_pins bs s v n a w) j (omega (arith, l, length_assumed bs s v n a w)) (sym e))
