@@ -12,4 +12,7 @@ use Rattle.netlist.proofs.NetlistLaws.{pins-at, pins-length}
 pub pins_past : (bs : List ℕ) (n k : ℕ) → length_of bs n ≤ k → 0 ≡ at ((net_of bs).pins n) k
 pins_past bs n k h = sym (get_or-eq_default ((net_of bs).pins n) 0 (omega (arith, h, pins-length bs n)))
 
-pub ruleset pin_laws = (pins-at, pins_past)
+pub ruleset pin_laws = (pins-at, pins-length)
+
+-- those with which a source is found, past the pins too
+pub ruleset pin_rules = (pins-at, pins_past)

@@ -108,7 +108,7 @@ impl KnownOutput<'_> {
 
 // The source of a pin, 0 where the node has no such pin: no option, since the definition and all callers go on
 // with 0 there.
-#[tactic(auto, using(crate::proofs::PinRules::pin_laws))]
+#[tactic(auto, using(crate::proofs::PinRules::pin_rules))]
 pub fn pin_source(netlist: &[u8], node: u16, pin: u16) -> u16
     ensures { result ≡ at ((net_of netlist.now).pins node) pin }
 {
