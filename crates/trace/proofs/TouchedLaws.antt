@@ -1,14 +1,14 @@
 -- Laws of what is touched, as the code works it out: pin by pin from the last one on, and test by test.
 use mathlib.Core.Bool.{Bool, ◌&&◌, ◌||◌, cond, false, not, true}
 use mathlib.Core.List.{List, [], ◌++◌, ◌∷◌}
-use mathlib.Core.Path.{◌∙◌, ◌≡◌, ap, refl, sym}
-use Prim.Native.Nat.{◌*◌, ◌+◌, ◌<◌, ◌≤◌, suc, zero, ℕ}
+use mathlib.Core.Path.{◌∙◌, ◌≡◌, ap, refl, subst, sym}
+use Prim.Native.Nat.{◌*◌, ◌+◌, ◌-◌, ◌<◌, ◌≤◌, suc, zero, ℕ}
 use native.Mathlib.Nat.{le_of_suc-le-suc, not-suc-le-zero}
 use native.Mathlib.Numerals.{add-one}
 use native.Mathlib.Omega.{arith}
 use lib.Dec.{eqb, leb}
-use lib.ListN.{drop, length, replicate, set, take}
-use lib.Seq.{length-take-le, take_at}
+use lib.ListN.{drop, drop_of_length-le, length, replicate, set, take}
+use lib.Seq.{drop-cons, length-take-le, take_at}
 use borrow.Author.Tests.{eq-eqb, le-leb, lt-leb, ne_eqb}
 use Rattle.trace.proofs.TraceAgreement.{latched_law, touched_from}
 use Rattle.trace.specs.Trace.{cleared, effect_dies, gate_touched, latched_touched, latched_touched_list, latched_untouched, one_if, touched_list, node_touched}
@@ -59,6 +59,16 @@ some_at [] k h d = absurd (not-suc-le-zero h)
 some_at (zero ∷ ms) zero h d = absurd (d refl)
 some_at (zero ∷ ms) (suc k) h d = some_at ms k (le_of_suc-le-suc h) d
 some_at (suc m ∷ ms) k h d = refl
+
+-- no line is left; and one line more in front that is not touched, where lines are counted down to 0
+pub some_none : (ms : List ℕ) (j : ℕ) → j ≡ length ms → some_touched (drop j ms) ≡ false
+some_none ms j e = let h : length ms ≤ j = omega arith in rw (drop_of_length-le ms h)
+
+pub some_more : (ms : List ℕ) (j : ℕ) → 0 < j → j ≤ length ms → at ms (j - 1) ≡ 0 → some_touched (drop j ms) ≡ false → some_touched (drop (j - 1) ms) ≡ false
+some_more ms j h l z e =
+    let m : j - 1 < length ms = omega arith in
+    let q : suc (j - 1) ≡ j = omega arith in
+    rw (drop-cons ms (j - 1) 0 m, z) (subst (λ (i : ℕ). some_touched (drop i ms) ≡ false) (sym q) e)
 
 -- a node's pins: whether one of them is touched; how many have a value, and which
 module _ (bs : List ℕ) (D : StuckLines) (v ms : ℕ → ℕ) (n : ℕ) where
@@ -118,6 +128,16 @@ module _ (net : Net) (D : StuckLines) (v ms : ℕ → ℕ) (n : ℕ) where
   pub gate_by : (w : ℕ) → some_touched (pins_touched net D v ms n) ≡ true → w ≡ gate (net.kind n) (untouched_values net D v ms n) → one_if (leb 2 w) ≡ gate_touched net D v ms n
   gate_by w e f = ap one_if (leb-unknown w ∙ ap is_unknown f) ∙ gate-touched e
 
+  -- whether a node is touched: an input, any other node but a flip-flop
+  module _ (latched : ℕ → ℕ) where
+    pub touched-input : is_given (net.kind n) ≡ true → is_flip_flop (net.kind n) ≡ false → site_touched (D.node n) (v n) 0 ≡ node_touched net D v latched ms n
+    unfolding node_touched
+    touched-input e f = ap (site_touched (D.node n) (v n)) (sym (λ i. cond (e i) (cond (f i) (latched n) 0) (gate_touched net D v ms n)))
+
+    pub touched-gate : is_given (net.kind n) ≡ false → site_touched (D.node n) (v n) (gate_touched net D v ms n) ≡ node_touched net D v latched ms n
+    unfolding node_touched
+    touched-gate e = ap (site_touched (D.node n) (v n)) (sym (λ i. cond (e i) (cond (is_flip_flop (net.kind n)) (latched n) 0) (gate_touched net D v ms n)))
+
   -- what was latched counts at the node's own place alone
   pub touched-latched : (latched other : ℕ → ℕ) → latched n ≡ other n → node_touched net D v latched ms n ≡ node_touched net D v other ms n
   unfolding node_touched
@@ -132,6 +152,10 @@ module _ (net : Net) (D : StuckLines) (v ms : ℕ → ℕ) (n : ℕ) where
   latched_by b e f = rw e (ap one_if f)
 
 module _ (net : Net) (D : StuckLines) (v : ℕ → ℕ) where
+  pub length-touched : (l : ℕ → ℕ) → length (touched_list net D v l) ≡ net.size
+  unfolding touched_list
+  length-touched l = length-build (touched_from net D v l) net.size
+
   -- A loop that writes what is touched over what was latched, by rising node, e being the slice when node i is reached: it holds the list
   -- made so far, and d from i on.
   pub touched_turn : (d e : List ℕ) (i x : ℕ) → i < length d → e ≡ build (touched_from net D v (at d)) i ++ drop i d → x ≡ node_touched net D v (at e) (at (take i e)) i
@@ -157,45 +181,47 @@ module _ (net : Net) (D : StuckLines) (v : ℕ → ℕ) where
   pub latched_every : (ms : ℕ → ℕ) → every (λ n. eqb (latched_touched net D v ms n) 0) net.size ≡ every (latched_untouched (latched_touched_list net D v ms)) net.size
   latched_every ms = every_same _ _ net.size (λ n h. ap (λ (x : ℕ). eqb x 0) (sym (latched_law net D v ms n h)))
 
--- frame t of the trace, with the touched flip-flops l and r frames behind it
-module _ (net : Net) (kn : ℕ → ℕ → ℕ) (r t : ℕ) (D : StuckLines) (l : List ℕ) where
+-- one frame of the trace, and the last one
+module _ (net : Net) (kn : ℕ → ℕ → ℕ) (t : ℕ) (D : StuckLines) (l : List ℕ) where
   abbrev pub frame_touched : List ℕ
   frame_touched = touched_list net D (λ n. kn n t) (at l)
 
-  abbrev next_touched : List ℕ
+  abbrev pub next_touched : List ℕ
   next_touched = latched_touched_list net D (λ n. kn n t) (at frame_touched)
 
-  pub dies-open : every (output_untouched net frame_touched) net.size ≡ false → effect_dies net kn r t D l ≡ false
+  pub dies-on : (r : ℕ) → 0 < r → every (output_untouched net frame_touched) net.size ≡ true → effect_dies net kn r t D l ≡ effect_dies net kn (r - 1) (t + 1) none_stuck next_touched
+  unfolding effect_dies
+  dies-on zero h e = absurd (omega arith)
+  dies-on (suc r) h e =
+      let q : r ≡ suc r - 1 = omega arith in
+      ap (λ (b : Bool). b && effect_dies net kn r (suc t) none_stuck next_touched) e ∙ (λ i. effect_dies net kn (q i) (sym (add-one t) i) none_stuck next_touched)
+
+  pub dies-last : (a b : Bool) → a ≡ every (output_untouched net frame_touched) net.size → b ≡ every (latched_untouched next_touched) net.size → (a && b) ≡ effect_dies net kn 0 t D l
+  unfolding effect_dies
+  dies-last a b e f = λ i. e i && f i
+
+-- a touched output ends the trace, whatever frames are behind it
+module _ (net : Net) (kn : ℕ → ℕ → ℕ) (r t : ℕ) (D : StuckLines) (l : List ℕ) where
+  pub dies-open : every (output_untouched net (frame_touched net kn t D l)) net.size ≡ false → effect_dies net kn r t D l ≡ false
   unfolding effect_dies
   dies-open e = go r
     where
       go : (r : ℕ) → effect_dies net kn r t D l ≡ false
-      go zero = ap (λ (b : Bool). b && every (latched_untouched next_touched) net.size) e
-      go (suc r) = ap (λ (b : Bool). b && effect_dies net kn r (suc t) none_stuck next_touched) e
-
-  dies-on : (rest : ℕ) → r ≡ suc rest → every (output_untouched net frame_touched) net.size ≡ true → effect_dies net kn r t D l ≡ effect_dies net kn rest (t + 1) none_stuck next_touched
-  unfolding effect_dies
-  dies-on rest h e =
-      (λ i. effect_dies net kn (h i) t D l)
-      ∙ ap (λ (b : Bool). b && effect_dies net kn rest (suc t) none_stuck next_touched) e
-      ∙ (λ i. effect_dies net kn rest (sym (add-one t) i) none_stuck next_touched)
-
-  dies-last : r ≡ 0 → every (output_untouched net frame_touched) net.size ≡ true → every (latched_untouched next_touched) net.size ≡ effect_dies net kn r t D l
-  unfolding effect_dies
-  dies-last h e = sym ((λ i. effect_dies net kn (h i) t D l) ∙ ap (λ (b : Bool). b && every (latched_untouched next_touched) net.size) e)
+      go zero = ap (λ (b : Bool). b && every (latched_untouched (next_touched net kn t D l)) net.size) e
+      go (suc r) = ap (λ (b : Bool). b && effect_dies net kn r (suc t) none_stuck (next_touched net kn t D l)) e
 
 -- The same where l has the touched flip-flops, as the code has the frame: with its own netlist, circuit and values. after is what is touched in
 -- it, and b says that no output is.
 module _ {bs bytes : List ℕ} {good circuit : Circuit} {v : ℕ → ℕ} {after : List ℕ} {b : Bool} (known : List ℕ) (r t : ℕ) (l : List ℕ) (e : bytes ≡ bs) (d : circuit ≡ good)
     (f : v ≡ (λ n. known_in known (net_of bs).size n t)) (q : after ≡ touched_list (net_of bytes) (lines_in circuit) v (at l))
     (p : b ≡ every (output_untouched (net_of bytes) after) (net_of bytes).size) where
-  after_is : after ≡ frame_touched (net_of bs) (known_in known (net_of bs).size) r t (lines_in good) l
+  after_is : after ≡ frame_touched (net_of bs) (known_in known (net_of bs).size) t (lines_in good) l
   after_is = q ∙ (λ i. touched_list (net_of (e i)) (lines_in (d i)) (f i) (at l))
 
-  outputs_are : every (output_untouched (net_of bs) (frame_touched (net_of bs) (known_in known (net_of bs).size) r t (lines_in good) l)) (net_of bs).size ≡ b
+  outputs_are : every (output_untouched (net_of bs) (frame_touched (net_of bs) (known_in known (net_of bs).size) t (lines_in good) l)) (net_of bs).size ≡ b
   outputs_are = sym (p ∙ (λ i. every (output_untouched (net_of (e i)) (after_is i)) (net_of (e i)).size))
 
-  next_is : latched_touched_list (net_of bytes) (lines_in circuit) v (at after) ≡ next_touched (net_of bs) (known_in known (net_of bs).size) r t (lines_in good) l
+  next_is : latched_touched_list (net_of bytes) (lines_in circuit) v (at after) ≡ next_touched (net_of bs) (known_in known (net_of bs).size) t (lines_in good) l
   next_is = λ i. latched_touched_list (net_of (e i)) (lines_in (d i)) (f i) (at (after_is i))
 
   -- a touched output ends the trace
@@ -206,14 +232,17 @@ module _ {bs bytes : List ℕ} {good circuit : Circuit} {v : ℕ → ℕ} {after
   pub frame_on : (rest : ℕ) (next : List ℕ) → r ≡ suc rest → b ≡ true → next ≡ latched_touched_list (net_of bytes) (lines_in circuit) v (at after)
       → effect_dies (net_of bs) (known_in known (net_of bs).size) r t (lines_in good) l ≡ effect_dies (net_of bs) (known_in known (net_of bs).size) rest (t + 1) none_stuck next
   frame_on rest next h z n =
-      dies-on (net_of bs) (known_in known (net_of bs).size) r t (lines_in good) l rest h (outputs_are ∙ z)
-      ∙ (λ i. effect_dies (net_of bs) (known_in known (net_of bs).size) rest (t + 1) none_stuck (sym (n ∙ next_is) i))
+      let q : r - 1 ≡ rest = omega (arith, h) in
+      dies-on (net_of bs) (known_in known (net_of bs).size) t (lines_in good) l r (omega (arith, h)) (outputs_are ∙ z)
+      ∙ (λ i. effect_dies (net_of bs) (known_in known (net_of bs).size) (q i) (t + 1) none_stuck (sym (n ∙ next_is) i))
 
   -- in the last frame no flip-flop's pin may be touched
   pub frame_last : (pins : Bool) → r ≡ 0 → b ≡ true → pins ≡ every (latched_untouched (latched_touched_list (net_of bytes) (lines_in circuit) v (at after))) (net_of bytes).size
       → pins ≡ effect_dies (net_of bs) (known_in known (net_of bs).size) r t (lines_in good) l
   frame_last pins h z n =
-      n ∙ (λ i. every (latched_untouched (next_is i)) (net_of (e i)).size) ∙ dies-last (net_of bs) (known_in known (net_of bs).size) r t (lines_in good) l h (outputs_are ∙ z)
+      let left = n ∙ (λ i. every (latched_untouched (next_is i)) (net_of (e i)).size) in
+      dies-last (net_of bs) (known_in known (net_of bs).size) t (lines_in good) l true pins (sym (outputs_are ∙ z)) left
+      ∙ (λ i. effect_dies (net_of bs) (known_in known (net_of bs).size) (sym h i) t (lines_in good) l)
 
 -- the trace reads which flip-flops are touched place by place, so a slice of zeros is as good as none
 pub dies-latched : (net : Net) (kn : ℕ → ℕ → ℕ) (r t : ℕ) (D : StuckLines) (l m : List ℕ) → at l ≡ at m → effect_dies net kn r t D l ≡ effect_dies net kn r t D m
@@ -231,7 +260,7 @@ zeros_taken (suc n) zero j = refl
 zeros_taken (suc n) (suc m) zero = refl
 zeros_taken (suc n) (suc m) (suc j) = zeros_taken n m j
 
-none-touched : (n m : ℕ) → at (take n (replicate m 0)) ≡ at []
+pub none-touched : (n m : ℕ) → at (take n (replicate m 0)) ≡ at []
 none-touched n m = λ i j. zeros_taken n m j i
 
 pub dies_cleared : (net : Net) (kn : ℕ → ℕ → ℕ) (r t : ℕ) (D : StuckLines) (l : List ℕ) (n m : ℕ) → l ≡ replicate m 0 → effect_dies net kn r t D (take n l) ≡ effect_dies net kn r t D []
