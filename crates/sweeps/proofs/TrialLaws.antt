@@ -1,5 +1,5 @@
 -- What the definitions of Trials say: a window that stands, and the bytes of what is known in it.
-use Rattle.std.specs.Prelude.{Some}
+use Rattle.std.specs.Prelude.{Option, Some}
 use mathlib.Core.Bool.{Bool, ◌&&◌, cond, false, not, true}
 use mathlib.Core.List.{List, [], ◌∷◌}
 use mathlib.Core.Path.{◌∙◌, ◌≡◌, ap, refl, sym}
@@ -146,6 +146,11 @@ module _ (bs : List ℕ) (f : Fault) (F : ℕ) (s : Split) (values : List ℕ) w
       ≡ certifying bs f F s values certificate
   unfolding certifying
   certifying-stands certificate e g = rw (e, le-leb _ _ g)
+
+-- certificates with the same count and the same bytes are the same
+pub certified-same : {a b : Option ℕ} {k l m n : List ℕ} → a ≡ b → k ≡ l → m ≡ n → certified a k m ≡ certified b l n
+certified-same {a} {b} {k} {l} {m} {n} e f g =
+    ap (λ (x : Option ℕ). certified x k m) e ∙ ap (λ (x : List ℕ). certified b x m) f ∙ ap (certified b l) g
 
 -- ---- held values
 
