@@ -5,5 +5,6 @@ pub mod ClosingLaws
 pub mod NotesLaws
 pub mod WalkLaws
 pub mod RuledOutLaws
+pub mod SmallLaws
 pub mod TestLaws
 pub mod SearchLaws
