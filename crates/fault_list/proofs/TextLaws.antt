@@ -3,10 +3,11 @@ use mathlib.Core.List.{List, [], ◌++◌, ◌∷◌}
 use mathlib.Core.Path.{◌∙◌, ◌≡◌, ap, sym}
 use Prim.Native.Nat.{◌%◌, ◌*◌, ◌+◌, ◌/◌, ◌<◌, ◌≤◌, suc, zero, ℕ}
 use native.Mathlib.Decide.{dec_lt}
+use native.Mathlib.Numerals.{add-one}
 use native.Mathlib.Omega.{arith}
 use borrow.Author.Tests.{le-ltb, lt-ltb}
-use lib.ListN.{drop, length, length-append, set, take}
-use lib.Seq.{sets, sets-eq, take_all, take-append-le}
+use lib.ListN.{drop, get_or, length, length-append, length-take, set, take}
+use lib.Seq.{sets, sets-eq, take_all, take-append-le, take-suc}
 use Rattle.fault_list.specs.Inner.Put.{Put, field_length, number_length, put, put_at}
 use Rattle.fault_list.specs.Text.{decimal, digit, digits, field}
 use Rattle.values.proofs.SetsLaws.{sets-after}
@@ -39,6 +40,14 @@ runs {l} {m} {k} {a} {b} {d} {us} {vs} p q =
       holds = q.holds ∙ rw (p.holds, p.ends) (sets-after us vs l a);
       ends = simp length-append (omega (arith, p.ends, q.ends));
     }
+
+-- one byte more of a text
+pub text_more : (t l : List ℕ) (a i : ℕ) → i < length t → set (sets l a (take i t)) (a + i) (get_or t i 0) ≡ sets l a (take (i + 1) t)
+text_more t l a i h =
+    let e : length (take i t) ≡ i = simp length-take (omega arith) in
+    ap (λ (j : ℕ). set (sets l a (take i t)) (a + j) (get_or t i 0)) (sym e)
+    ∙ byte-after (take i t) l a (get_or t i 0)
+    ∙ ap (λ (r : List ℕ). sets l a r) (sym (ap (λ (j : ℕ). take j t) (add-one i) ∙ take-suc t i 0 h))
 
 -- a number of one digit, and of more
 digits_one : (k n : ℕ) → n < 10 → digits (suc k) n ≡ digit n ∷ []
