@@ -1,5 +1,5 @@
 -- What holds of one turn: it makes what the finder's answer says, and fewer turns are left after it.
-use Rattle.std.proofs.Common.{◌≡◌, ℕ, ◌+◌, ◌<◌, true, List, length, sym, ap, ◌∙◌, arith}
+use Rattle.std.proofs.Common.{◌≡◌, ℕ, ◌+◌, ◌<◌, true, false, List, length, sym, ap, ◌∙◌, true≢false, arith}
 use Rattle.netlist.specs.Answer.{answered}
 use Rattle.circuit.specs.Fault.{fault_exists}
 use Rattle.netlist.specs.Netlist.{net_of, node_count, pin_count, reading, sound}
@@ -13,7 +13,7 @@ use Rattle.std.specs.Prelude.{Option, Result}
 use Rattle.fault_list.specs.Faults.{fault_after, rest_after}
 use Rattle.report_text.proofs.StageLaws.{list_left, rest-left}
 use Rattle.report_text.specs.Report.{given_b, given_f, netlist_in}
-use Rattle.report_text.specs.Turns.{fault_turn, made_for, stage_at, line_written, turn, turns_left}
+use Rattle.report_text.specs.Turns.{fault_turn, is_over, made_for, stage_at, line_written, turn, turns_left}
 use Rattle.report_text.specs.declared.progress.Progress.{Progress}
 use Rattle.report_text.specs.declared.progress.Stage.{Stage}
 use Rattle.report_text.specs.declared.progress.Stage.TheVariants.{Counted, Looking, Over}
@@ -63,3 +63,9 @@ pub turns_fall : (input : List ℕ) (f : Fault) → fault_exists (net_of (netlis
     → turns_left input (stage_at (net_of (netlist_in input)) (fault_after (net_of (netlist_in input)) f)) < length (rest_after (net_of (netlist_in input)) f) + 2
 turns_fall input f e =
     let net = net_of (netlist_in input) in rw (rest-left net f e) (left-few input (stage_at net (fault_after net f)))
+
+-- where the report is not over, a turn is left
+pub turn-left : (input : List ℕ) (s : Stage) → is_over s ≡ false → 0 < turns_left input s
+turn-left input (Looking f) e = omega arith
+turn-left input Counted e = omega arith
+turn-left input Over e = absurd (true≢false e)
