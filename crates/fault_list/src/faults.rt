@@ -50,29 +50,37 @@ pub fn first_of(netlist: &[u8], node: u16) -> Fault
     }
 }
 
-// The fault that follows, none behind the last.
+// The fault that follows. Behind the last comes one of a node that the circuit does not have, and there
+// the list ends: it is followed by itself.
 #[tactic(auto, unfolding(crate::specs::Inner::Walk::next_fault, crate::specs::Faults::follows_at, crate::specs::Faults::behind_site, netlist::specs::Netlist::net_of))]
-pub fn fault_after(netlist: &[u8], fault: Fault) -> Option<Fault>
-    ensures { result ≡ listed (net_of netlist.now) (next_fault (net_of netlist.now) fault) }
+pub fn fault_after(netlist: &[u8], fault: Fault) -> Fault
+    ensures { result ≡ next_fault (net_of netlist.now) fault }
 {
     let node = fault.node;
-    let count = netlist::node_count(netlist);
-    if count <= node {
-        return None;
+    if netlist::node_count(netlist) <= node {
+        return fault;
     }
     if fault.stuck == 0 {
-        return Some(Fault { stuck: 1, ..fault });
+        return Fault { stuck: 1, ..fault };
     }
     match fault.site {
         Site::Pin(pin) => {
-            let site = site_after(named_pins(netlist, node), pin);
-            Some(Fault {
-                site,
+            let next = site_after(named_pins(netlist, node), pin);
+            Fault {
+                node,
+                site: next,
                 stuck: 0,
-                ..fault
-            })
+            }
         }
-        Site::Whole if node + 1 < count => Some(first_of(netlist, node + 1)),
-        Site::Whole => None,
+        Site::Whole => first_of(netlist, node + 1),
     }
+}
+
+// The fault that follows in the list, none behind the last.
+#[tactic(auto, unfolding(netlist::specs::Netlist::net_of))]
+pub fn listed_after(netlist: &[u8], fault: Fault) -> Option<Fault>
+    ensures { result ≡ listed (net_of netlist.now) (next_fault (net_of netlist.now) fault) }
+{
+    let next = fault_after(netlist, fault);
+    (next.node < netlist::node_count(netlist)).then_some(next)
 }

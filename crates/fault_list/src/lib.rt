@@ -5,5 +5,5 @@
 mod faults;
 mod text;
 
-pub use faults::{fault_after, first_of};
+pub use faults::{fault_after, first_of, listed_after};
 pub use text::{put_decimal, put_field, put_text};

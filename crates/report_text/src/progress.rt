@@ -86,7 +86,7 @@ impl Progress {
         ensures { result ≡ progress (stage_at (net_of netlist.now) (fault_after (net_of netlist.now) fault)) self.marks (one_more self.faults) length }
     {
         Progress {
-            stage: fault_list::fault_after(netlist, fault).map_or(Stage::Counted, Stage::Looking),
+            stage: fault_list::listed_after(netlist, fault).map_or(Stage::Counted, Stage::Looking),
             faults: self.faults.wrapping_add(1),
             length,
             ..self

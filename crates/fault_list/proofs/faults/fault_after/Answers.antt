@@ -1,25 +1,17 @@
-use Rattle.std.proofs.Common.{arith, le-ltb, lt-ltb, rules, ◌+◌, ◌<◌, ◌≤◌}
+use Rattle.std.proofs.Common.{arith, rules, ◌≡◌, ◌<◌}
+use Rattle.fault_list.specs.Faults.{behind_site}
 use Rattle.netlist.specs.Netlist.{net_of}
-use Rattle.fault_list.proofs.WalkLaws.{named-few, node_behind}
+use Rattle.fault_list.proofs.WalkLaws.{named-few, first-named, next_behind}
 use Rattle.fault_list.proofs.faults.fault_after.Goals as goal
 
-pub site_after-site-requires : goal.site_after-site-requires
-site_after-site-requires c = omega (arith, c.named_pins.ensures, named-few (net_of c.args.netlist.now) c.args.fault.node)
+pub site_after-next-requires : goal.site_after-next-requires
+site_after-next-requires c = omega (arith, c.named_pins.ensures, named-few (net_of c.args.netlist.now) c.args.fault.node)
 
 pub returns-in-Whole : goal.returns-in-Whole
-unfolding net_of
+unfolding behind_site net_of
 returns-in-Whole c =
-    let f = c.args.fault in
-    let net = net_of c.args.netlist.now in
-    let h : f.node < net.size = omega arith in
-    let g : f.node + 1 < net.size = omega arith in
-    rw (node_behind net f h (search rules) c.in-Whole.is, lt-ltb (f.node + 1) net.size g, c.first_of.ensures)
-
-pub returns-in-Whole-2 : goal.returns-in-Whole-2
-unfolding net_of
-returns-in-Whole-2 c =
-    let f = c.args.fault in
-    let net = net_of c.args.netlist.now in
-    let h : f.node < net.size = omega arith in
-    let g : net.size ≤ f.node + 1 = omega arith in
-    rw (node_behind net f h (search rules) (search rules), le-ltb (f.node + 1) net.size g)
+    let a = c.args in
+    let net = net_of a.netlist.now in
+    let h : a.fault.node < net.size = omega (arith, c.node_count.ensures, c.if-node_count-node.false) in
+    let behind : (a.fault.stuck ≡ 0 → ⊥) = search rules in
+    rw (next_behind net a.fault h behind, c.in-Whole.is, first-named, c.first_of.ensures)

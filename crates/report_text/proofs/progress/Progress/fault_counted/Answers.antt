@@ -10,5 +10,5 @@ pub returns : goal.returns
 returns c =
     let a = c.args in
     let net = net_of a.netlist.now in
-    let next = c.fault_after.ensures ∙ ap (listed net) (next-sound a.netlist.now a.fault c.requires.netlist_sound c.requires.fault_exists) in
+    let next = c.listed_after.ensures ∙ ap (listed net) (next-sound a.netlist.now a.fault c.requires.netlist_sound c.requires.fault_exists) in
     rw (next_stage net (fault_after net a.fault) (rw next at c.map_or.ensures))
