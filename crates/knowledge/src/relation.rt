@@ -26,15 +26,23 @@ pub fn circuit_in(fault: Fault, c: u8, frame: u8) -> Circuit
     }
 }
 
-// The frame of a node's pins in a relation: a flip-flop's stand one frame earlier.
-pub fn pin_frame(netlist: &[u8], node: u16, frame: u8) -> u8
-    ensures { result ≡ pin_frame (kind_of netlist.now node) frame }
+// The frame of the pins of a node of a kind in a relation: a flip-flop's stand one frame earlier. The kind is a
+// number, which need not name one.
+pub fn pin_frame(kind: u8, frame: u8) -> u8
+    ensures { result ≡ pin_frame kind frame }
 {
-    if netlist::is_of_kind(netlist, node, Kind::FlipFlop) {
+    if kind == u8::from(Kind::FlipFlop) {
         frame.saturating_sub(1)
     } else {
         frame
     }
+}
+
+// The frame of a node's pins in its relation.
+pub fn pin_frame_of(netlist: &[u8], node: u16, frame: u8) -> u8
+    ensures { result ≡ pin_frame (kind_of netlist.now node) frame }
+{
+    pin_frame(netlist::kind_number(netlist, node), frame)
 }
 
 // Inputs, and flip-flops at frame 0, have no relation.
@@ -137,7 +145,7 @@ pub fn conclude(
     ensures { result ≡ conclusion (net_of netlist.now) (present_below c (lines_of fault)) (known_in known.now (net_of netlist.now).size) node frame line }
 {
     let n = netlist::node_count(netlist);
-    let pins_at = pin_frame(netlist, node, frame);
+    let pins_at = pin_frame_of(netlist, node, frame);
     let circuit = circuit_in(fault, c, pins_at);
     let values = values::tail(known, place_of(n, 0, pins_at as u16));
     if line == 0 {

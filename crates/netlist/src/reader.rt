@@ -35,8 +35,8 @@ fn pin_count(netlist: &[u8]) -> u16
     u16_at(netlist, 2)
 }
 
-// The number of a node's kind.
-fn kind_number(netlist: &[u8], node: u16) -> u8
+// The number of a node's kind, whether or not it names one.
+pub fn kind_number(netlist: &[u8], node: u16) -> u8
     ensures { result ≡ kind_of netlist.now node }
 {
     byte_at(netlist, 4 + 5 * (node as usize))

@@ -110,7 +110,7 @@ impl Relation<'_> {
             return false;
         }
         let netlist = self.window.netlist;
-        let pins_at = knowledge::pin_frame(netlist, self.node, self.frame);
+        let pins_at = knowledge::pin_frame_of(netlist, self.node, self.frame);
         let source = netlist::source_of(netlist, self.node, pin);
         let place = knowledge::place_of(self.window.n, source, pins_at as u16);
         values::byte_at(known, place) < UNKNOWN

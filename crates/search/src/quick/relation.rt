@@ -31,7 +31,7 @@ impl Relation {
     fn of(set: &ValueSet, node: u16, frame: u8, inverted: bool) -> Relation {
         let window = set.window;
         let Window { fault, c, .. } = window;
-        let pins_at = knowledge::pin_frame(set.netlist, node, frame);
+        let pins_at = knowledge::pin_frame_of(set.netlist, node, frame);
         Relation {
             node,
             place: netlist::pins_place(set.netlist, node),

@@ -13,7 +13,7 @@ pub returns-then-line-eq0 : goal.returns-then-line-eq0
 unfolding net_of
 returns-then-line-eq0 c =
     let a = c.args in
-    let frame_is = c.pin_frame-pins_at.ensures in
+    let frame_is = c.pin_frame_of-pins_at.ensures in
     rw c.if-line-eq0.true
     (conclude_output (net_of a.netlist.now) (present_below a.c (lines_of a.fault)) a.known.now a.node a.frame _ _ _ _ _ frame_is c.node_count-n.ensures
     c.circuit_in-circuit.ensures c.place_of.ensures c.tail-values.ensures _ c.gate_value.ensures)
@@ -22,7 +22,7 @@ pub returns : goal.returns
 unfolding net_of
 returns c =
     let a = c.args in
-    let frame_is = c.pin_frame-pins_at.ensures in
+    let frame_is = c.pin_frame_of-pins_at.ensures in
     let output = c.byte_at.ensures ∙ ap (at a.known.now) c.place_of-2.ensures in
     conclude_pin (net_of a.netlist.now) (present_below a.c (lines_of a.fault)) a.known.now a.node a.frame _ _ _ _ _ frame_is c.node_count-n.ensures
     c.circuit_in-circuit.ensures c.place_of.ensures c.tail-values.ensures a.line _ _ _ c.if-line-eq0.false c.pin_source.ensures output (c.unwrap_or.ensures ∙ c.conclusion.ensures)
