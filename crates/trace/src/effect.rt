@@ -98,7 +98,10 @@ impl Frame<'_> {
         for node in 0..n {
             next[node as usize] = self.latched_touched(touched, node) as u8;
         }
-        touched.copy_from_slice(&next[..n as usize]);
+        // place by place: copied as a whole, two parts of one slice need memmove, which a caller in C may not have
+        for node in 0..n {
+            touched[node as usize] = next[node as usize];
+        }
     }
 
     // Whether no flip-flop's pin is touched.
