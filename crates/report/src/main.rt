@@ -2,28 +2,12 @@
 #![tactic(auto)]
 
 ghost use Rattle.std.specs.Prelude.{◌<◌, ◌≤◌, IfOk, length, take};
-ghost use Rattle.std.specs.Io.{ReadsAtMost};
-ghost use Rattle.std.specs.Io.KnownBytes.{Consumes, IsAtEnd, ReadConsumes};
+ghost use Rattle.std.specs.Io.KnownBytes.{Consumes, IsAtEnd};
 ghost use Rattle.report_text.specs.Turns.{ProgramBuffers, slices};
 
 use report_text::{LINE_LENGTH, Progress};
 use std::io;
-use std::io::{ErrorKind, Read, Write};
-
-// One read, tried again where a signal interrupts it. The number of tries is a bound that no run
-// reaches: without one it could not be shown that the function ends.
-fn read_some<R: Read>(input: &mut R, buffer: &mut [u8]) -> io::Result<usize>
-    ensures bound { ReadsAtMost result buffer.new }
-    ensures bytes { ReadConsumes (R.remaining input.old) (R.remaining input.new) result buffer.new }
-{
-    for _ in 0..u64::MAX {
-        match input.read(buffer) {
-            Err(error) if error.kind() == ErrorKind::Interrupted => {}
-            other => return other,
-        }
-    }
-    Err(ErrorKind::Interrupted.into())
-}
+use std::io::{Read, Write};
 
 // Reads until the buffer is full or the input ends, and returns how many bytes were read; they stand at
 // the buffer's start. A pipe may give them in pieces.
@@ -35,7 +19,7 @@ fn read_input<R: Read>(input: &mut R, buffer: &mut [u8]) -> io::Result<usize>
     let mut done = 0;
     // A read goes on by as many bytes as came, so that no count of reads is known before.
     while done < buffer.len() {
-        let count = read_some(input, &mut buffer[done..])?;
+        let count = input.read(&mut buffer[done..])?;
         if count == 0 {
             break;
         }

@@ -22,7 +22,7 @@ loop-done-preserved g c =
     let l = c.loop-done in
     let read = c.in_ok-count.ensures in
     let within : l.done ≤ length l.buffer = omega arith in
-    let whole = take-put_mid l.buffer c.read_some.new.buffer l.done c.in_ok-count.count within read.bound.0 in (
-      fits-put_mid l.buffer c.read_some.new.buffer l.done c.in_ok-count.count within read.bound.0,
+    let whole = take-put_mid l.buffer c.read.new.buf l.done c.in_ok-count.count within read.bound.0 in (
+      fits-put_mid l.buffer c.read.new.buf l.done c.in_ok-count.count within read.bound.0,
       subst (Consumes _ _) (sym whole) (Consumes-trans _ _ _ _ _ l.invariant.1 read.bytes.0),
     )
