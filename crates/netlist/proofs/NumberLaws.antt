@@ -5,11 +5,13 @@ use mathlib.Core.Option.{Option, none, some}
 use mathlib.Core.Path.{◌∙◌, ◌≡◌, ap, refl, sym}
 use Prim.Native.Nat.{ℕ}
 use native.Mathlib.Omega.{arith}
-use Rattle.netlist.specs.Refusal.{number_of_refusal}
+use Rattle.std.specs.Prelude.{Result, Ok, Err}
+use Rattle.netlist.specs.Refusal.{number_of_refusal, number_said}
+use Rattle.netlist.specs.declared.reader.Size.{Size}
 use Rattle.netlist.specs.declared.refusal.Refusal.{Refusal}
 use Rattle.netlist.specs.declared.refusal.Refusal.TheVariants as refusals
 use Rattle.netlist.specs.Answer.{Answer, Test, answered, number_of, refusal, refused}
-use Rattle.netlist.specs.Netlist.{node_count, pin_count, reading, reader_tests, sound}
+use Rattle.netlist.specs.Netlist.{node_count, pin_count, reading, reader_tests, reading_says, sound}
 use Rattle.netlist.proofs.RefusalLaws.{FirstFails, fails_here, fails_later, refusal_some}
 
 abbrev numbers_of : {A : Type 0} → List (Test A) → List ℕ
@@ -22,6 +24,12 @@ fails_among (t ∷ ts) a k (fails_here f e) = rw (← e) mem-cons_self
 fails_among (t ∷ ts) a k (fails_later p f) = mem-cons_of_mem t.number (fails_among ts a k f)
 
 -- THE READER
+
+-- the number that is said of what the reader finds is that of its answer, 0 where the netlist is sound
+pub number_read : (found : Result Size Refusal) → number_said found ≡ number_of (reading_says found)
+number_read (Ok size) = refl
+number_read (Err refusal) = refl
+
 pub reading_numbers : (bs : List ℕ) (k : ℕ) → reading bs ≡ refused k → Mem k (1 ∷ 2 ∷ 3 ∷ 4 ∷ 5 ∷ 6 ∷ 7 ∷ [])
 unfolding reading
 reading_numbers bs k q = by (refusal reader_tests bs) refl q
