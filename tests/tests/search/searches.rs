@@ -109,7 +109,7 @@ pub mod lies {
             Lie::Truth => {}
         }
         for _ in 0..random.below(100) {
-            scratch.trail.append(random.word() as usize);
+            scratch.trail.append(random.word() as u16 as usize);
         }
     }
 
