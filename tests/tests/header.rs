@@ -82,6 +82,13 @@ fn exported(listing: &str) -> BTreeSet<&str> {
     words.filter_map(|mut words| words.nth(2)).collect()
 }
 
+/// What a library needs from elsewhere, by a listing of such symbols: sort and
+/// name on a line.
+fn needed(listing: &str) -> BTreeSet<&str> {
+    let words = listing.lines().map(|line| line.split_whitespace());
+    words.filter_map(|mut words| words.nth(1)).collect()
+}
+
 #[test]
 fn the_c_program_finds_all_as_it_should_be() {
     assert_content(&top_folder().join("target/examples/every-call"));
@@ -100,6 +107,15 @@ fn the_library_exports_what_the_header_declares() {
     let output = run(Command::new("nm").args(["-g", "--defined-only", ARCHIVE]));
     let listing = String::from_utf8_lossy(&output.stdout);
     assert_eq!(exported(&listing), declared(&text_of(HEADER)));
+}
+
+/// A program without a C library brings these two along, since compilers call
+/// them for any code.
+#[test]
+fn the_library_needs_two_functions_from_elsewhere() {
+    let output = run(Command::new("nm").args(["-u", ARCHIVE]));
+    let listing = String::from_utf8_lossy(&output.stdout);
+    assert_eq!(needed(&listing), BTreeSet::from(["memcpy", "memset"]));
 }
 
 /// The C compiler as one of C++, in the top folder.
@@ -140,4 +156,6 @@ fn a_function_too_few_or_too_many_is_noticed() {
     assert_eq!(not_called(&functions, "one(1); three(2);"), ["two"]);
     let listing = "\nkit.o:\n0000000000000000 T one\n0000000000000010 T three\n";
     assert_eq!(exported(listing), BTreeSet::from(["one", "three"]));
+    let listing = "\nkit.o:\n                 U five\n                 U four\n";
+    assert_eq!(needed(listing), BTreeSet::from(["five", "four"]));
 }
